@@ -1,0 +1,9 @@
+pub mod Held
+pub mod Literals
+pub mod Signs
+pub mod Choices
+pub mod Away
+pub mod Whole
+pub mod Digits
+pub mod Scaled
+pub mod Patterns

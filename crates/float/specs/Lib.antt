@@ -1,0 +1,3 @@
+pub mod Helpers
+pub mod Root
+pub mod Values

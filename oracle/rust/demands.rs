@@ -1,0 +1,277 @@
+//! Demand 3 pitted against the oracle itself: each pair of nodes counted never
+//! or twice over sampled loops, quads and remaining fronts; the corner test on
+//! the answer's points; the prefix under two pass limits. In each answer, after
+//! further rows and closings, and after each fan granted.
+
+use crate::calls::{self, Buffers, Counts, Job};
+use crate::functions::quad_ok;
+use crate::generate::{self, Random};
+use crate::requests::job_lines;
+use std::collections::{BTreeMap, HashMap};
+
+#[derive(Default)]
+pub struct Report {
+    pub seen: BTreeMap<String, u64>,
+    pub exceptions: Vec<String>,
+}
+
+impl Report {
+    fn count(&mut self, what: impl Into<String>, n: u64) {
+        *self.seen.entry(what.into()).or_insert(0) += n;
+    }
+
+    pub fn text(&self) -> String {
+        let mut out = String::new();
+        for (what, n) in &self.seen {
+            out += &format!("{n:>10}  {what}\n");
+        }
+        for e in &self.exceptions {
+            out += &format!("EXCEPTION {e}\n");
+        }
+        out + &format!("{} exceptions\n", self.exceptions.len())
+    }
+}
+
+/// A state as the calls give it.
+struct State {
+    buffers: Buffers,
+    counts: Counts,
+}
+
+fn add_ring(sides: &mut HashMap<(usize, usize), u32>, ring: &[usize]) {
+    for i in 0..ring.len() {
+        let (a, b) = (ring[i], ring[(i + 1) % ring.len()]);
+        *sides.entry((a.min(b), a.max(b))).or_insert(0) += 1;
+    }
+}
+
+/// A pair of nodes that counts neither 0 nor 2 times, or is no pair.
+pub fn bad_pair(loops: &[Vec<usize>], quads: &[[usize; 4]], fronts: &[Vec<usize>]) -> Option<((usize, usize), u32)> {
+    let mut sides = HashMap::new();
+    loops.iter().for_each(|ring| add_ring(&mut sides, ring));
+    quads.iter().for_each(|quad| add_ring(&mut sides, quad));
+    fronts.iter().for_each(|ring| add_ring(&mut sides, ring));
+    sides.into_iter().filter(|((a, b), n)| a == b || *n != 2).min()
+}
+
+/// What demand 3 says of one answer.
+fn faults(loops: &[Vec<usize>], sampled: &State, s: &State) -> Option<String> {
+    let quads: Vec<[usize; 4]> = (0..s.counts.quads).map(|i| s.buffers.quad(i)).collect();
+    if let Some((pair, n)) = bad_pair(loops, &quads, &s.buffers.fronts(&s.counts)) {
+        return Some(format!("the pair {pair:?} counts {n} times"));
+    }
+    for q in &quads {
+        if !quad_ok(q.map(|node| s.buffers.point(node))) {
+            return Some(format!("the quad {q:?} fails the corner test"));
+        }
+    }
+    if !first_points(sampled, s) {
+        return Some("the sampled points are not the first".to_string());
+    }
+    if s.counts.row_quads + s.counts.core_quads != s.counts.quads {
+        return Some("row_quads and core_quads are not the quads".to_string());
+    }
+    None
+}
+
+/// Whether a's points are the first of b's, by their bits.
+fn first_points(a: &State, b: &State) -> bool {
+    a.counts.points <= b.counts.points
+        && (0..2 * a.counts.points).all(|i| a.buffers.points[i].to_bits() == b.buffers.points[i].to_bits())
+}
+
+/// Whether a's points and laid quads are the first of b's.
+fn prefix(a: &State, b: &State) -> bool {
+    first_points(a, b)
+        && a.counts.laid <= b.counts.laid
+        && a.buffers.quads[..4 * a.counts.laid] == b.buffers.quads[..4 * a.counts.laid]
+}
+
+fn with_passes(job: &Job, passes: usize) -> Job {
+    let mut job = job.clone();
+    job.options.max_row_rounds = passes;
+    job
+}
+
+fn whole(job: &Job) -> (u8, State) {
+    let mut buffers = Buffers::new();
+    let (n, counts) = calls::job(job, &mut buffers);
+    (n, State { buffers, counts })
+}
+
+/// The fan of an answer, and demand 3 after it.
+fn fan(report: &mut Report, job: &Job, loops: &[Vec<usize>], sampled: &State, s: &State) -> Option<String> {
+    let mut after = State { buffers: s.buffers.clone(), counts: s.counts };
+    let (n, counts) = calls::fan(job, &mut after.buffers, s.counts);
+    after.counts = counts;
+    if n != 0 {
+        report.count(format!("fans refused: {n:02}"), 1);
+        if !after.buffers.same(&s.buffers) || counts != s.counts {
+            return Some(format!("a fan refused with {n} changed the state"));
+        }
+        return None;
+    }
+    report.count(if s.counts.fronts == 0 { "fans with no front" } else { "fans granted" }, 1);
+    faults(loops, sampled, &after).map(|fault| format!("after a fan {fault}"))
+}
+
+/// Rows by single calls, then the closings: demand 3 after each, and the fan.
+fn single_calls(
+    report: &mut Report, r: &mut Random, job: &Job, loops: &[Vec<usize>], sampled: &State, start: &State,
+) -> Option<String> {
+    let mut s = State { buffers: start.buffers.clone(), counts: start.counts };
+    for _ in 0..3 {
+        if s.counts.fronts == 0 {
+            break;
+        }
+        let front = r.below(s.counts.fronts);
+        let (n, counts) = calls::row(job, front, &mut s.buffers, s.counts);
+        s.counts = counts;
+        report.count(if n == 0 { "row calls granted".to_string() } else { format!("row calls refused: {n:02}") }, 1);
+        if let Some(fault) = faults(loops, sampled, &s) {
+            return Some(format!("after a row call {fault}"));
+        }
+    }
+    let (n, counts) = calls::close(job, &mut s.buffers, s.counts);
+    s.counts = counts;
+    report.count(if n == 0 { "closing calls granted".to_string() } else { format!("closing calls refused: {n:02}") }, 1);
+    if let Some(fault) = faults(loops, sampled, &s) {
+        return Some(format!("after a closing call {fault}"));
+    }
+    fan(report, job, loops, sampled, &s)
+}
+
+/// One job under the pass limits `less` and `more`.
+fn check(report: &mut Report, r: &mut Random, job: &Job, less: usize, more: usize) -> Option<String> {
+    let (n, large) = whole(&with_passes(job, more));
+    let (m, small) = whole(&with_passes(job, less));
+    report.count(if n == 0 { "jobs accepted".to_string() } else { format!("jobs refused: {n:02}") }, 1);
+    if n != m && n != 21 {
+        return Some(format!("numbers {m} and {n} under {less} and {more} passes"));
+    }
+    let mut buffers = Buffers::new();
+    let (k, counts) = calls::sample(job, &mut buffers);
+    let sampled = State { buffers, counts };
+    if k != 0 {
+        return if k == n { None } else { Some(format!("sampling answers {k}, the job {n}")) };
+    }
+    let loops = sampled.buffers.fronts(&counts);
+    for (number, s) in [(n, &large), (m, &small)] {
+        if number != 0 {
+            continue;
+        }
+        report.count("answers checked", 1);
+        if let Some(fault) = faults(&loops, &sampled, s) {
+            return Some(fault);
+        }
+        if let Some(fault) = fan(report, job, &loops, &sampled, s) {
+            return Some(fault);
+        }
+        if let Some(fault) = single_calls(report, r, job, &loops, &sampled, s) {
+            return Some(fault);
+        }
+    }
+    if n == 0 {
+        let closed = loops.len() - large.counts.fronts;
+        let sixes = large.counts.row_quads - large.counts.laid - closed;
+        report.count("rows in accepted jobs", large.counts.row_rounds as u64);
+        report.count("quads in accepted jobs", large.counts.quads as u64);
+        report.count("fronts of four closed", (closed - sixes) as u64);
+        report.count("fronts of six closed", sixes as u64);
+        report.count("fronts left", large.counts.fronts as u64);
+        if large.counts.row_rounds > 0 {
+            report.count("accepted jobs with a row", 1);
+        }
+        if large.counts.points > 4_000 {
+            report.count("accepted jobs over 4,000 points", 1);
+        }
+        if counts.points > 2_000 {
+            report.count("accepted jobs over 2,000 sampled nodes", 1);
+        }
+    }
+    if n == 0 && m == 0 {
+        report.count("prefixes checked", 1);
+        if small.counts.laid < large.counts.laid {
+            report.count("prefixes that are shorter", 1);
+        }
+        if !prefix(&small, &large) {
+            return Some(format!("{less} passes are no prefix of {more}"));
+        }
+    }
+    None
+}
+
+/// A plate of 2 rows, changed in one place each time: every change must be seen.
+fn changes_unseen() -> Vec<String> {
+    let xy = (0..40).flat_map(|k| generate::on_circle(k as f64, 40.0)).map(|c| 6_400.0 * c).collect();
+    let mut job = Job { xy, lengths: vec![40], h: 1_000.0, options: calls::default_options() };
+    job.options.max_row_rounds = 2;
+    let mut buffers = Buffers::new();
+    let (_, counts) = calls::sample(&job, &mut buffers);
+    let sampled = State { buffers, counts };
+    let loops = sampled.buffers.fronts(&counts);
+    let (n, right) = whole(&job);
+    let last = right.counts.quads - 1;
+    let mut unseen = Vec::new();
+    let mut see = |what: &str, seen: bool| {
+        if !seen {
+            unseen.push(format!("a change is not seen: {what}"));
+        }
+    };
+    see("none", n == 0 && right.counts.row_rounds == 2 && faults(&loops, &sampled, &right).is_none());
+    let mut altered = |what: &str, change: &dyn Fn(&mut State)| {
+        let mut s = State { buffers: right.buffers.clone(), counts: right.counts };
+        change(&mut s);
+        see(what, faults(&loops, &sampled, &s).is_some());
+    };
+    altered("a quad less", &|s| {
+        s.counts.quads -= 1;
+        s.counts.row_quads -= 1;
+    });
+    altered("a quad twice", &|s| s.buffers.quads.copy_within(4 * last - 4..4 * last, 4 * last));
+    altered("the spent front used again", &|s| {
+        for (k, node) in loops[0].iter().enumerate() {
+            s.buffers.front_nodes[k] = *node as u16;
+        }
+    });
+    altered("a front less", &|s| s.counts.fronts = 0);
+    altered("a quad turned", &|s| s.buffers.quads[4 * last..4 * last + 4].reverse());
+    altered("a row's point moved", &|s| s.buffers.points[2 * s.counts.points - 1] += 5_000.0);
+    altered("a sampled point moved by one bit", &|s| {
+        s.buffers.points[5] = f64::from_bits(s.buffers.points[5].to_bits() ^ 1)
+    });
+    let (_, small) = whole(&with_passes(&job, 1));
+    see("a prefix", prefix(&small, &right) && !prefix(&right, &small));
+    let mut s = State { buffers: small.buffers.clone(), counts: small.counts };
+    s.buffers.points[2 * s.counts.points - 1] += 1e-9;
+    see("a prefix's point moved", !prefix(&s, &right));
+    let mut s = State { buffers: small.buffers.clone(), counts: small.counts };
+    s.buffers.quads.swap(0, 1);
+    see("a prefix's quad changed", !prefix(&s, &right));
+    unseen
+}
+
+/// Jobs 0 to `count` of a seed.
+pub fn run(seed: u64, count: u64) -> Report {
+    let mut report = Report { exceptions: changes_unseen(), ..Report::default() };
+    for index in 0..count {
+        let made = generate::job(seed, index);
+        report.count("jobs", 1);
+        report.count(format!("shape: {}", made.shape), 1);
+        report.count(format!("change: {}", made.change), 1);
+        let r = &mut Random::new(seed ^ 0x5EED, index);
+        let own = made.job.options.max_row_rounds;
+        let (less, more) = match own {
+            0 => (0, r.pick(&[1, 2, 64])),
+            65.. => (own, own),
+            _ => (r.below(own + 1), own),
+        };
+        if let Some(fault) = check(&mut report, r, &made.job, less, more) {
+            report.exceptions.push(format!(
+                "seed {seed} job {index} ({}, {}), passes {less} and {more}: {fault}\n{}",
+                made.shape, made.change, job_lines(&made.job)
+            ));
+        }
+    }
+    report
+}

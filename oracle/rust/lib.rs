@@ -1,0 +1,25 @@
+//! The Rust mesher's rows, closings and fan, as an oracle for the port.
+//!
+//! `cut` is made at build time from the Rust source; the rest is what stands
+//! around it: document 01's measures (`quality`), the added limits (`limits`),
+//! calls over lent buffers (`calls`), the texts (`text`, `requests`), single
+//! functions (`functions`), jobs and states from a seed (`generate`, `states`),
+//! the counting of demand 3 (`demands`), and any paver side by side with the
+//! oracle (`compare`).
+
+#[allow(dead_code)]
+#[rustfmt::skip]
+mod cut;
+
+pub mod calls;
+pub mod compare;
+pub mod demands;
+pub mod functions;
+pub mod generate;
+pub mod limits;
+pub mod quality;
+pub mod requests;
+pub mod states;
+pub mod text;
+
+pub use cut::alt_paving::Options;

@@ -1,0 +1,229 @@
+//! Requests in a text, many in one run.
+//!
+//! A request is a head line, the lines of a job and, for a row, the closings
+//! and the fan, those of a state; `end` closes it. Fields are parted by tabs or
+//! spaces. A number is a decimal, or x and the 16 hexadecimal digits of its bits.
+//!
+//!     job | sample | row FRONT | close | fan      the answer is pave's text, then `end`
+//!     area | contains X Y | distance X Y          of the job's domain; one line
+//!     call NAME NUMBER..                          one line, no `end` awaited
+//!
+//!     size H
+//!     options CORNER_MARGIN MIN_EDGE_FRACTION FRONT_GAP PASSES SEAM    (left out: the defaults)
+//!     outer | hole
+//!     at X Y
+//!     counts POINTS QUADS FRONTS ROW_QUADS CORE_QUADS ROW_ROUNDS PASSES LAID
+//!     p X Y
+//!     q A B C D
+//!     f A B ..
+
+use crate::calls::{self, default_options, Buffers, Counts, Job};
+use crate::functions as f;
+use crate::text;
+
+fn number(field: &str) -> Result<f64, String> {
+    let fault = || format!("not a number: {field}");
+    match field.strip_prefix('x') {
+        Some(bits) => u64::from_str_radix(bits, 16).map(f64::from_bits).map_err(|_| fault()),
+        None => field.parse().map_err(|_| fault()),
+    }
+}
+
+fn natural(field: &str) -> Result<usize, String> {
+    field.parse().map_err(|_| format!("not a count: {field}"))
+}
+
+fn bits(x: f64) -> String {
+    format!("{:016X}", x.to_bits())
+}
+
+/// A number as it stands in a request, by its bits.
+pub fn by_bits(x: f64) -> String {
+    format!("x{}", bits(x))
+}
+
+/// The lines of a job, options and all, by bits.
+pub fn job_lines(job: &Job) -> String {
+    let o = &job.options;
+    let mut out = format!(
+        "size\t{}\noptions\t{}\t{}\t{}\t{}\t{}\n",
+        by_bits(job.h), by_bits(o.corner_margin), by_bits(o.min_edge_fraction),
+        by_bits(o.front_gap), o.max_row_rounds, o.seam
+    );
+    let mut pairs = job.xy.chunks_exact(2);
+    for (i, &n) in job.lengths.iter().enumerate() {
+        out += if i == 0 { "outer\n" } else { "hole\n" };
+        for p in pairs.by_ref().take(n) {
+            out += &format!("at\t{}\t{}\n", by_bits(p[0]), by_bits(p[1]));
+        }
+    }
+    out
+}
+
+/// What stands between a head and `end`.
+struct Body {
+    job: Job,
+    buffers: Buffers,
+    counts: Counts,
+}
+
+impl Body {
+    fn new() -> Body {
+        Body {
+            job: Job { xy: Vec::new(), lengths: Vec::new(), h: f64::NAN, options: default_options() },
+            buffers: Buffers { points: vec![], quads: vec![], front_nodes: vec![], front_lengths: vec![] },
+            counts: Counts::default(),
+        }
+    }
+
+    fn line(&mut self, fields: &[&str]) -> Result<(), String> {
+        let rest = &fields[1..];
+        match (fields[0], rest.len()) {
+            ("size", 1) => self.job.h = number(rest[0])?,
+            ("options", 5) => {
+                let o = &mut self.job.options;
+                o.corner_margin = number(rest[0])?;
+                o.min_edge_fraction = number(rest[1])?;
+                o.front_gap = number(rest[2])?;
+                o.max_row_rounds = natural(rest[3])?;
+                o.seam = rest[4] == "true";
+            }
+            ("outer", 0) | ("hole", 0) => self.job.lengths.push(0),
+            ("at", 2) => {
+                self.job.xy.push(number(rest[0])?);
+                self.job.xy.push(number(rest[1])?);
+                *self.job.lengths.last_mut().ok_or("at before outer")? += 1;
+            }
+            ("counts", 8) => {
+                let mut list = [0; 8];
+                for (place, field) in list.iter_mut().zip(rest) {
+                    *place = natural(field)?;
+                }
+                self.counts = Counts::of(list);
+            }
+            ("p", 2) => {
+                self.buffers.points.push(number(rest[0])?);
+                self.buffers.points.push(number(rest[1])?);
+            }
+            ("q", 4) => self.nodes(rest, true)?,
+            ("f", _) => {
+                self.buffers.front_lengths.push(rest.len() as u16);
+                self.nodes(rest, false)?;
+            }
+            _ => return Err(format!("not a line of a request: {}", fields.join(" "))),
+        }
+        Ok(())
+    }
+
+    fn nodes(&mut self, fields: &[&str], quad: bool) -> Result<(), String> {
+        for field in fields {
+            let node = field.parse::<u16>().map_err(|_| format!("not a node: {field}"))?;
+            if quad { self.buffers.quads.push(node) } else { self.buffers.front_nodes.push(node) }
+        }
+        Ok(())
+    }
+
+    /// The buffers at their lengths; what a request does not give is 0.
+    fn fill(&mut self) {
+        let b = &mut self.buffers;
+        b.points.resize(b.points.len().max(calls::POINTS), 0.0);
+        b.quads.resize(b.quads.len().max(calls::QUADS), 0);
+        b.front_nodes.resize(b.front_nodes.len().max(calls::FRONT_NODES), 0);
+        b.front_lengths.resize(b.front_lengths.len().max(calls::FRONT_LENGTHS), 0);
+    }
+
+    fn answer(&mut self, head: &[&str]) -> Result<String, String> {
+        self.fill();
+        let (job, counts) = (&self.job, self.counts);
+        let b = &mut self.buffers;
+        let (n, c) = match (head[0], head.len()) {
+            ("job", 1) => calls::job(job, b),
+            ("sample", 1) => calls::sample(job, b),
+            ("row", 2) => calls::row(job, natural(head[1])?, b, counts),
+            ("close", 1) => calls::close(job, b, counts),
+            ("fan", 1) => calls::fan(job, b, counts),
+            ("area", 1) => return Ok(bits(f::domain_area(job)) + "\n"),
+            ("contains", 3) => {
+                let p = [number(head[1])?, number(head[2])?];
+                return Ok(format!("{}\n", f::domain_contains(job, p)));
+            }
+            ("distance", 3) => {
+                let p = [number(head[1])?, number(head[2])?];
+                return Ok(bits(f::distance_to_boundary(job, p)) + "\n");
+            }
+            _ => return Err(format!("not a request: {}", head.join(" "))),
+        };
+        Ok(text::answer(n, &c, b) + "end\n")
+    }
+}
+
+/// `call NAME NUMBER..`: one function of the Rust.
+fn call(fields: &[&str]) -> Result<String, String> {
+    let name = *fields.first().ok_or("call what?")?;
+    let mut x = Vec::new();
+    for field in &fields[1..] {
+        x.push(number(field)?);
+    }
+    let pairs = |from: usize| -> Vec<[f64; 2]> { x[from..].chunks_exact(2).map(|p| [p[0], p[1]]).collect() };
+    let four = || -> [[f64; 2]; 4] { [0, 1, 2, 3].map(|i| [x[2 * i], x[2 * i + 1]]) };
+    let out = match (name, x.len()) {
+        ("sqrt", 1) => bits(f::sqrt(x[0])),
+        ("min", 2) => bits(f::min(x[0], x[1])),
+        ("max", 2) => bits(f::max(x[0], x[1])),
+        ("clamp", 3) => bits(f::clamp(x[0], x[1], x[2])),
+        ("round", 1) => bits(f::round(x[0])),
+        ("round_as_usize", 1) => f::round_as_usize(x[0]).to_string(),
+        ("segment_length", 4) => bits(f::segment_length([x[0], x[1]], [x[2], x[3]])),
+        ("signed_area", n) if n % 2 == 0 => bits(f::signed_area(&pairs(0))),
+        ("sharp", n) if n >= 7 && n % 2 == 1 => f::sharp(&pairs(1), x[0] as usize).to_string(),
+        ("project", 7) => match f::project([x[0], x[1]], [x[2], x[3]], [x[4], x[5]], x[6]) {
+            None => "none".to_string(),
+            Some(p) => format!("{}\t{}", bits(p[0]), bits(p[1])),
+        },
+        ("segments_cross", 8) => {
+            let p = four();
+            f::segments_cross(p[0], p[1], p[2], p[3]).to_string()
+        }
+        ("loop_is_simple", n) if n % 2 == 0 => f::loop_is_simple(&pairs(0)).to_string(),
+        ("paving_segment_distance", 6) => {
+            bits(f::paving_segment_distance([x[0], x[1]], [x[2], x[3]], [x[4], x[5]]))
+        }
+        ("domain_segment_distance", 6) => {
+            bits(f::domain_segment_distance([x[0], x[1]], [x[2], x[3]], [x[4], x[5]]))
+        }
+        ("point_in_polygon", n) if n >= 2 && n % 2 == 0 => {
+            f::point_in_polygon([x[0], x[1]], &pairs(2)).to_string()
+        }
+        ("corner_values", 8) => f::corner_values(four()).map(bits).join("\t"),
+        ("quad_ok", 8) => f::quad_ok(four()).to_string(),
+        ("signed_quad_area", 8) => bits(f::signed_quad_area(four())),
+        _ => return Err(format!("not a function with {} numbers: {name}", x.len())),
+    };
+    Ok(out + "\n")
+}
+
+/// Answers every request of a text, in order.
+pub fn answers(input: &str) -> Result<String, String> {
+    let mut out = String::new();
+    let mut lines = input.lines().enumerate().filter(|(_, line)| !line.trim().is_empty());
+    while let Some((at, line)) = lines.next() {
+        let head: Vec<&str> = line.split_whitespace().collect();
+        let result = if head[0] == "call" {
+            call(&head[1..])
+        } else {
+            let mut body = Body::new();
+            let mut ended = false;
+            for (at, line) in lines.by_ref() {
+                let fields: Vec<&str> = line.split_whitespace().collect();
+                if fields == ["end"] {
+                    ended = true;
+                    break;
+                }
+                body.line(&fields).map_err(|e| format!("line {}: {e}", at + 1))?;
+            }
+            if ended { body.answer(&head) } else { Err("a request without end".to_string()) }
+        };
+        out += &result.map_err(|e| format!("line {}: {e}", at + 1))?;
+    }
+    Ok(out)
+}

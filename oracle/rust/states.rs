@@ -1,0 +1,162 @@
+//! States for single row, closing and fan calls, from a seed: what a job gives,
+//! fronts made by hand, and damaged ones.
+
+use crate::calls::{self, Buffers, Counts, Job};
+use crate::generate::{on_circle, Random};
+
+#[derive(Clone)]
+pub struct State {
+    pub buffers: Buffers,
+    pub counts: Counts,
+}
+
+/// Numbers that earlier use might have left.
+pub fn noise(r: &mut Random) -> Buffers {
+    let mut b = Buffers::new();
+    b.points.iter_mut().for_each(|x| *x = f64::from_bits(r.next()));
+    b.quads.iter_mut().for_each(|x| *x = r.next() as u16);
+    b.front_nodes.iter_mut().for_each(|x| *x = r.next() as u16);
+    b.front_lengths.iter_mut().for_each(|x| *x = r.next() as u16);
+    b
+}
+
+/// The state with noise beyond its counts, which no call may read.
+pub fn with_noise(r: &mut Random, s: &State) -> State {
+    let mut b = noise(r);
+    let c = s.counts;
+    let nodes: usize = s.buffers.front_lengths[..c.fronts].iter().map(|&n| n as usize).sum();
+    b.points[..2 * c.points].copy_from_slice(&s.buffers.points[..2 * c.points]);
+    b.quads[..4 * c.quads].copy_from_slice(&s.buffers.quads[..4 * c.quads]);
+    b.front_nodes[..nodes].copy_from_slice(&s.buffers.front_nodes[..nodes]);
+    b.front_lengths[..c.fronts].copy_from_slice(&s.buffers.front_lengths[..c.fronts]);
+    State { buffers: b, counts: c }
+}
+
+fn polygon(r: &mut Random, n: usize, centre: [f64; 2], radius: f64) -> Vec<[f64; 2]> {
+    let rough = r.pick(&[0.0, 0.0, 0.05, 0.5]);
+    let flat = r.pick(&[1.0, 1.0, 0.5, 0.1]);
+    let mut points: Vec<[f64; 2]> = (0..n)
+        .map(|k| {
+            let p = on_circle(k as f64, n as f64);
+            let s = radius * (1.0 - rough * r.unit());
+            [centre[0] + s * p[0], centre[1] + flat * s * p[1]]
+        })
+        .collect();
+    if r.chance(30) {
+        points.reverse();
+    }
+    if r.chance(30) {
+        points.iter_mut().for_each(|p| *p = [p[0].round(), p[1].round()]);
+    }
+    points
+}
+
+/// Fronts made by hand within the box of the job's outer loop.
+pub fn by_hand(r: &mut Random, job: &Job) -> State {
+    let outer = &job.xy[..2 * job.lengths[0]];
+    let (mut low, mut high) = ([f64::INFINITY; 2], [f64::NEG_INFINITY; 2]);
+    for p in outer.chunks_exact(2) {
+        for k in 0..2 {
+            low[k] = low[k].min(p[k]);
+            high[k] = high[k].max(p[k]);
+        }
+    }
+    let fronts = r.pick(&[1, 1, 1, 1, 2, 3, 16]);
+    let mut s = State { buffers: Buffers::new(), counts: Counts { fronts, ..Counts::default() } };
+    let mut at = 0;
+    for f in 0..fronts {
+        let n = r.pick(&[3, 4, 4, 5, 6, 6, 6, 7, 8, 10, 12, 20, 40]);
+        let centre = [r.between(low[0], high[0]), r.between(low[1], high[1])];
+        let radius = 0.5 * (high[0] - low[0]).min(high[1] - low[1]) * r.unit();
+        let start = s.counts.points;
+        for p in polygon(r, n, centre, radius) {
+            s.buffers.points[2 * s.counts.points] = p[0];
+            s.buffers.points[2 * s.counts.points + 1] = p[1];
+            s.counts.points += 1;
+        }
+        for k in 0..n {
+            s.buffers.front_nodes[at + k] = (start + k) as u16;
+        }
+        s.buffers.front_lengths[f] = n as u16;
+        at += n;
+    }
+    s
+}
+
+/// Quads and points added until a limit of 4,096 is near.
+pub fn fill_up(r: &mut Random, s: &mut State) {
+    let short = r.below(60);
+    if r.chance(50) {
+        s.counts.points = s.counts.points.max(4_096 - short);
+    }
+    let quads = if s.counts.points > 3 { s.counts.quads.max(4_096 - r.below(60)) } else { s.counts.quads };
+    for i in s.counts.quads..quads {
+        for k in 0..4 {
+            s.buffers.quads[4 * i + k] = r.below(s.counts.points) as u16;
+        }
+    }
+    s.counts.core_quads += quads - s.counts.quads;
+    s.counts.quads = quads;
+}
+
+/// One fault that number 25 is for, or a value just within.
+pub fn damage(r: &mut Random, s: &mut State) {
+    let c = &mut s.counts;
+    let b = &mut s.buffers;
+    let odd = [4_096, 4_097, 16, 17, 2_048, 65_535, usize::MAX, 0];
+    let nodes: usize = b.front_lengths[..c.fronts].iter().map(|&n| n as usize).sum();
+    match r.below(15) {
+        0 => c.points = r.pick(&odd),
+        1 => c.quads = r.pick(&odd),
+        2 => c.fronts = r.pick(&odd),
+        3 => c.row_quads = r.pick(&[usize::MAX, c.row_quads + 1, c.quads]),
+        4 => c.core_quads = r.pick(&[usize::MAX, c.core_quads + 1, c.quads]),
+        5 => c.row_rounds = r.pick(&[usize::MAX, c.row_quads / 6, c.row_quads / 6 + 1, usize::MAX / 6 + 2]),
+        6 => c.laid = r.pick(&[usize::MAX, c.quads, c.quads + 1]),
+        7 => c.passes = r.pick(&[usize::MAX, 65, 0]),
+        8 if c.fronts > 0 => b.front_lengths[r.below(c.fronts)] = r.pick(&[0, 1, 2, 3, 4, 6, 2_048, 65_535]),
+        9 if nodes > 0 => b.front_nodes[r.below(nodes)] = r.pick(&[0, 65_535, c.points as u16]),
+        10 if nodes > 1 => b.front_nodes[r.below(nodes)] = b.front_nodes[r.below(nodes)],
+        11 if c.quads > 0 => b.quads[r.below(4 * c.quads)] = r.pick(&[65_535, c.points as u16]),
+        12 if c.points > 0 => {
+            b.points[r.below(2 * c.points)] =
+                r.pick(&[f64::NAN, f64::INFINITY, 1e9, 1_000_000_000.0000001, -1e9, -1e300, -0.0, 5e-324])
+        }
+        13 if nodes > 2 => {
+            let (i, j) = (r.below(nodes), r.below(nodes));
+            b.front_nodes.swap(i, j);
+        }
+        _ if c.points > 0 => {
+            let (i, j) = (r.below(c.points), r.below(c.points));
+            for k in 0..2 {
+                b.points[2 * i + k] = b.points[2 * j + k];
+            }
+        }
+        _ => c.laid = 1,
+    }
+}
+
+/// A state to call on: of a job, by hand, near a limit, or damaged.
+pub fn state(r: &mut Random, job: &Job, answer: &State) -> (State, &'static str) {
+    let (mut s, mut kind) = (answer.clone(), "after a job");
+    let can = !job.lengths.is_empty() && job.lengths[0] > 0 && 2 * job.lengths[0] <= job.xy.len();
+    match r.below(10) {
+        0..=2 if can => (s, kind) = (by_hand(r, job), "fronts by hand"),
+        3..=5 => {
+            let (n, counts) = calls::sample(job, &mut s.buffers);
+            s.counts = counts;
+            kind = if n == 0 { "sampled loops" } else { "after a job" };
+        }
+        _ => {}
+    }
+    if r.chance(5) {
+        fill_up(r, &mut s);
+        kind = "near a limit";
+    }
+    if r.chance(20) {
+        damage(r, &mut s);
+        kind = "damaged";
+        return (s, kind);
+    }
+    (with_noise(r, &s), kind)
+}
