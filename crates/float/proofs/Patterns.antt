@@ -1,15 +1,16 @@
 -- From an f64 above 0 to its significand and exponent, by its bit pattern, and the root of every other f64.
 use mathlib.Core.Path.{_≡_, refl, sym, ap, _∙_, subst}
+use mathlib.Core.Logic.{_⊎_, inl, inr}
 use mathlib.Core.Bool.{Bool, true, false, not, _&&_, _||_, Bool·beq, cond}
 use Prim.Native.Nat.{ℕ, zero, suc, _+_, _-_, _*_, _/_, _%_, _^_, _≤_, _<_}
 use native.Mathlib.Nat.{le-trans, le-of-eq, lt-of-lt-of-le, lt-of-le-of-lt, lt-irrefl, mul-assoc, mul-one, mul-le-mul-right, mod-lt, mod-eq-of-lt, add-comm, mul-pos, zero-lt-suc, div-eq-of-eq-mul-left, div-eq-of-lt}
 use native.Mathlib.Omega.{arith}
-use lib.Dec.{T, leb, eqb, nleb→lt, lt→ltb, T-not, lit<, lit≤}
+use lib.Dec.{T, leb, eqb, nleb→lt, ltb, ltb→lt, nltb→le, lt→ltb, T-not, not-T, lit<, lit≤}
 use lib.Pow.{pow-add, pow-pos, pow-mono, shl-lt}
 use lib.Count.{leadingZeros, leading-top}
 use lib.Ieee.{Float, nan, inf, fin, binary64, up, down, odd, fits, isNan, nanBits, ofFields, ofBits, toBits, lt, eq, div}
 use lib.Ieee.Fits.{eq→eqb, up-pos}
-use lib.Ieee.Bits.{ofBits-toBits, nanBits-is}
+use lib.Ieee.Bits.{ofBits-toBits, nanBits-is, nanBits-above}
 use lib.Ieee.Exact.{HasValue, odd-sign}
 use lib.Ieee.Positive.{num, den, positive, den-pos, value→cross, value-pos}
 use borrow.Author.Tests.{ltb-true, ltb-false}
@@ -79,6 +80,13 @@ ofBits-is b = refl
 
 field-small : (b : ℕ) → b % 2 ^ 63 / 2 ^ 52 < 2048
 field-small b = omega arith
+
+pub here-or-on : (i c : ℕ) → (i < c) ⊎ (c ≤ i)
+here-or-on i c = go (ltb i c) (ltb→lt i c) (nltb→le i c)
+  where
+    go : (t : Bool) → (T t → i < c) → (T (not t) → c ≤ i) → (i < c) ⊎ (c ≤ i)
+    go true a b = inl (a tt)
+    go false a b = inr (b tt)
 
 -- ---- an f64 x above 0, in units of the smallest f64
 abbrev pub units : Float → ℕ
@@ -199,6 +207,13 @@ module _ (x : Float) (F : T (fits binary64 x)) (p : T (positive x)) where
           back : (i : ℕ) → i < 52 → 52 - i + i ≡ 52
           back i s = omega arith
 
+  pub scaled : (s : ℕ) × (w : ℕ) × Scaled (units x) s w
+  scaled =
+      elim (here-or-on b (2 ^ 52)) [
+        | inl h ↦ (b * 2 ^ (leadingZeros 64 b - 11) % 2 ^ 64, 63 - leadingZeros 64 b, subnormal h)
+        | inr h ↦ (b % 2 ^ 52 + 2 ^ 52, b / 2 ^ 52 + 51, normal h)
+      ]
+
   module _ (s w : ℕ) (S : Scaled (units x) s w) (c : ℕ) (C : c ≡ (w / 2 + 485) * 2 ^ 52 + (found s w + 1) / 2) where
     pub from-bits : ofBits binary64 c ≡ root x
     from-bits = ap (ofBits binary64) C ∙ root-bits-are (units x) s w S ∙ sym (root-of x p)
@@ -264,3 +279,12 @@ no-root (fin false (suc m) e) h k = absurd (some (suc m * up e) (down e) (mul-po
   where
     some : (n d : ℕ) → 0 < n → n * 1 ≤ 0 * d → ⊥
     some n d a b = omega arith
+
+-- ---- a pattern below the infinity's is no NaN's
+pub below-endless : (c : ℕ) → c ≤ 2047 * 2 ^ 52 → T (not (nanBits binary64 c))
+below-endless c h =
+    subst (λ (t : Bool). T (not t)) (sym (nanBits-above binary64 c))
+    (not-T (ltb (2047 * 2 ^ 52) (c % 2 ^ 63)) (λ (t : T (ltb (2047 * 2 ^ 52) (c % 2 ^ 63))). go c h (ltb→lt (2047 * 2 ^ 52) (c % 2 ^ 63) t)))
+  where
+    go : (c : ℕ) → c ≤ 9218868437227405312 → 9218868437227405312 < c % 9223372036854775808 → ⊥
+    go c h l = omega arith

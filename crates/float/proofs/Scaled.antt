@@ -44,7 +44,7 @@ bits-of (fin false m e) r k v l u =
     tidy k r = omega arith
 
 -- ---- powers of four
-four : (k : ℕ) → 4 ^ k ≡ 2 ^ k * 2 ^ k
+pub four : (k : ℕ) → 4 ^ k ≡ 2 ^ k * 2 ^ k
 four zero = refl
 four (suc k) = pow-suc 4 k ∙ ap (λ (p : ℕ). p * 4) (four k) ∙ go (2 ^ k) ∙ ap (λ (p : ℕ). p * p) (sym (pow-suc 2 k))
   where
@@ -99,7 +99,7 @@ doubled-most s w h = go s (w % 2) h (bit w)
     go s (suc (suc r)) h b = omega arith
 
 module _ (n s w : ℕ) (S : Scaled n s w) where
-  size-of : size n ≡ suc w
+  pub size-of : size n ≡ suc w
   size-of =
       size-is n w
       (le-of-mul-le-mul-right (le-trans (le-of-eq (mul-comm (2 ^ w) (2 ^ 52))) (le-trans (mul-le-mul-right (2 ^ w) (S .least)) (le-of-eq (sym (S .same))))) (pow-pos 52))
@@ -114,15 +114,18 @@ module _ (n s w : ℕ) (S : Scaled n s w) where
       go : (w : ℕ) → (suc w + 1) / 2 ≡ suc (w / 2)
       go w = omega arith
 
-  moved-is : n * 4 ^ 54 / 4 ^ suc (w / 2) ≡ moved s w
-  moved-is =
-      let p = 4 ^ (w / 2) in
-      let r = w % 2 + 1 in
-      div-eq-of-eq-mul-left (subst (λ (k : ℕ). 0 < k) (sym (four (suc (w / 2)))) (mul-pos (pow-pos (suc (w / 2))) (pow-pos (suc (w / 2)))))
-      (go n s p r (S .same ∙ ap (λ (k : ℕ). s * k) (halved w)) ∙ ap (λ (k : ℕ). moved s w * k) (sym (pow-suc 4 (w / 2))))
+  pub moved-times : n * 4 ^ 54 ≡ moved s w * 4 ^ suc (w / 2)
+  moved-times =
+      go n s (4 ^ (w / 2)) (w % 2 + 1) (S .same ∙ ap (λ (k : ℕ). s * k) (halved w))
+      ∙ ap (λ (k : ℕ). moved s w * k) (sym (pow-suc 4 (w / 2)))
     where
       go : (n s p r : ℕ) → n * 4503599627370496 ≡ s * (p * r) → n * 324518553658426726783156020576256 ≡ s * r * 18014398509481984 * (p * 4)
       go n s p r e = omega arith
+
+  moved-is : n * 4 ^ 54 / 4 ^ suc (w / 2) ≡ moved s w
+  moved-is =
+      div-eq-of-eq-mul-left (subst (λ (k : ℕ). 0 < k) (sym (four (suc (w / 2)))) (mul-pos (pow-pos (suc (w / 2))) (pow-pos (suc (w / 2)))))
+      moved-times
 
   -- ---- the root has 54 digits
   low : 4 ^ 53 ≤ moved s w
@@ -237,13 +240,13 @@ module _ (t j : ℕ) (lo : 2 ^ 54 ≤ t) (hi : t < 2 ^ 55) where
 
 -- ---- the root of n units
 module _ (n s w : ℕ) (S : Scaled n s w) where
-  least-kept : 2 ^ 52 ≤ (found s w + 1) / 2
+  pub least-kept : 2 ^ 52 ≤ (found s w + 1) / 2
   least-kept = go (found s w) (least-found n s w S)
     where
       go : (q : ℕ) → 9007199254740992 ≤ q → 4503599627370496 ≤ (q + 1) / 2
       go q h = omega arith
 
-  most-kept : (found s w + 1) / 2 < 2 ^ 53
+  pub most-kept : (found s w + 1) / 2 < 2 ^ 53
   most-kept = go (found s w) (most-found n s w S)
     where
       go : (q : ℕ) → q ≤ 18014398509481982 → (q + 1) / 2 < 9007199254740992

@@ -48,7 +48,7 @@ below-zero (inf false) h = clash h refl
 below-zero (fin true m e) h = refl
 below-zero (fin false m e) h = absurd (none-below (m * up e) (down e) (ltb-true (m * up e * 1) (0 * down e) h))
 
-fits-zero : (s : Bool) (e : ℤ) → T (fits binary64 (fin s zero e)) → e ≡ pos 0
+pub fits-zero : (s : Bool) (e : ℤ) → T (fits binary64 (fin s zero e)) → e ≡ pos 0
 unfolding fits
 fits-zero s e F = zero-exponent e (eqb→eq (up e * down e) 1 F)
 

@@ -59,3 +59,26 @@ root-digits (suc k) n = subst (λ (p : ℕ). wholeRoot (suc k) n < p) (sym (pow-
     go : (r p : ℕ) (b : Bool) → r < p → cond b (2 * r + 1) (2 * r) < p * 2
     go r p true h = omega arith
     go r p false h = omega arith
+
+-- ---- the whole number c nearest to the root of m, by the digit more that the root of 4 * m has
+pub nearest-found : (k m c : ℕ) → 4 * m < 4 ^ k → c * c < m + c → m ≤ c * c + c → c ≡ (wholeRoot k (4 * m) + 1) / 2
+nearest-found k m c h lo hi =
+    let q = wholeRoot k (4 * m) in
+    let r = root-is k (4 * m) h in
+    half c q (root-le q (2 * c) (lt-of-le-of-lt (r .0) (under m c hi))) (least c q lo (r .1))
+  where
+    under : (m c : ℕ) → m ≤ c * c + c → 4 * m < (2 * c + 1) * (2 * c + 1)
+    under m c h = omega arith
+
+    over : (m c : ℕ) → suc c * suc c < m + suc c → (2 * c + 1) * (2 * c + 1) ≤ 4 * m
+    over m c h = omega arith
+
+    next : (c q : ℕ) → 2 * c + 1 ≤ q → 2 * suc c ≤ q + 1
+    next c q h = omega arith
+
+    least : (c q : ℕ) → c * c < m + c → 4 * m < (q + 1) * (q + 1) → 2 * c ≤ q + 1
+    least zero q l g = omega arith
+    least (suc c) q l g = next c q (root-le (2 * c + 1) q (lt-of-le-of-lt (over m c l) g))
+
+    half : (c q : ℕ) → q ≤ 2 * c → 2 * c ≤ q + 1 → c ≡ (q + 1) / 2
+    half c q a b = omega arith

@@ -1,6 +1,7 @@
 // Functions on f64 that the paving uses: what Rust's methods of f64 give, and the square root. Each takes every f64.
+ghost use mathlib.Core.Bool.{true};
 ghost use mathlib.Core.Path.{_≡_};
-ghost use Prim.Native.Nat.{_+_, _*_, _/_, _%_, _<_, _^_};
+ghost use Prim.Native.Nat.{_+_, _*_, _/_, _%_, _≤_, _<_, _^_};
 ghost use Rattle.float.specs.Helpers as helpers;
 ghost use Rattle.float.specs.Root.{root as rootOf, wholeRoot};
 
@@ -8,39 +9,30 @@ ghost use Rattle.float.specs.Root.{root as rootOf, wholeRoot};
 pub fn absolute(x: f64) -> f64
     ensures { λ r. ⌜ r ≡ helpers.absolute x ⌝ }
 {
-    if x < 0.0 {
-        -x
-    } else if x == 0.0 {
-        0.0
-    } else {
-        x
+    if x == 0.0 {
+        return 0.0;
     }
+    if x < 0.0 { -x } else { x }
 }
 
 // `a.min(b)`
 pub fn lesser(a: f64, b: f64) -> f64
     ensures { λ r. ⌜ r ≡ helpers.lesser a b ⌝ }
 {
-    if b < a {
-        b
-    } else if a == a {
-        a
-    } else {
-        b
+    if a != a {
+        return b;
     }
+    if b < a { b } else { a }
 }
 
 // `a.max(b)`
 pub fn greater(a: f64, b: f64) -> f64
     ensures { λ r. ⌜ r ≡ helpers.greater a b ⌝ }
 {
-    if a < b {
-        b
-    } else if a == a {
-        a
-    } else {
-        b
+    if a != a {
+        return b;
     }
+    if a < b { b } else { a }
 }
 
 // `x.clamp(0.0, 1.0)`
@@ -104,13 +96,88 @@ fn whole_root(a: u64) -> u64
     q
 }
 
+// Whether g is the whole number nearest to the root of a * 2^52: its square is within g of that number. Each part of
+// the square is taken off by itself, and where one does not fit the answer is no.
+fn is_nearest(a: u64, g: u64) -> bool
+    requires { ⌜ (a < 2 ^ 54) × (g < 2 ^ 53) ⌝ }
+    ensures { λ r. ⌜ (r ≡ true → (g * g < a * 2 ^ 52 + g) × (a * 2 ^ 52 ≤ g * g + g)) ⌝ }
+{
+    let h = g / 67108864;
+    let l = g % 67108864;
+    let hh = h * h;
+    if hh <= a {
+        let d = a - hh;
+        if d < 1073741824 {
+            let hl = h * l * 2;
+            let over = d * 67108864 + 1073741824;
+            if hl <= over {
+                let e = over - hl;
+                if e < 2147483648 {
+                    let t = e * 67108864;
+                    let u = l * l + 72057594037927936;
+                    if u < t + g {
+                        return t <= u + g;
+                    }
+                }
+            }
+        }
+    }
+    false
+}
+
+// The root of a * 4^27, rounded to 53 digits: the guess, where it is right.
+fn rounded_root(a: u64, guess: u64) -> u64
+    requires { ⌜ (a < 2 ^ 54) × (guess < 2 ^ 53) ⌝ }
+    ensures { λ r. ⌜ r ≡ (wholeRoot 54 (a * 4 ^ 27) + 1) / 2 ⌝ }
+{
+    if is_nearest(a, guess) {
+        return guess;
+    }
+    (whole_root(a) + 1) / 2
+}
+
+// The upper half of the digits of g.
+fn upper(g: f64) -> f64 {
+    let t = g * 134217729.0;
+    t - (t - g)
+}
+
+// The 53 digits of a number from 1 up to 2.
+fn digits_of(x: f64) -> u64
+    ensures { λ r. ⌜ r < 2 ^ 53 ⌝ }
+{
+    if x == x {
+        return f64::to_bits(x) % 4503599627370496 + 4503599627370496;
+    }
+    0
+}
+
+// A first guess at the root of s or 2s, for an s of 53 digits: a polynomial, a step of Newton's method, and a last one
+// whose remainder is exact. Nearly always it is the right one, and nothing rests on that.
+fn guess(s: u64, odd: u64) -> u64
+    requires { ⌜ (s < 2 ^ 53) × (odd < 2) ⌝ }
+    ensures { λ r. ⌜ r < 2 ^ 53 ⌝ }
+{
+    // m is from 1 up to 2, y is m or 2m, and scale is 1 or the root of 2
+    let m = f64::from_bits(s + 4602678819172646912);
+    let y = f64::from_bits(s + 4602678819172646912 + odd * 4503599627370496);
+    let scale = f64::from_bits(odd * 1865452045155277 + 4607182418800017408);
+    let mm = m * m;
+    let p = scale
+        * (0.32395383 + m * 0.91971188 + mm * (m * 0.088572551 - 0.32149351 - mm * 0.010736388));
+    let g = (p + y / p) * 0.5;
+    let high = upper(g);
+    digits_of(high + (y - high * high) / (high + g))
+}
+
 // The bits of the root of s * 2^(w - 52) units of the smallest f64, for an s of 53 binary digits.
 fn root_bits(s: u64, w: u64) -> u64
     requires { ⌜ (s < 2 ^ 53) × (w < 2098) ⌝ }
     ensures { λ r. ⌜ r ≡ (w / 2 + 485) * 2 ^ 52 + (wholeRoot 54 (s * (w % 2 + 1) * 4 ^ 27) + 1) / 2 ⌝ }
 {
-    let q = whole_root(s * (w % 2 + 1));
-    (w / 2 + 485) * 4503599627370496 + (q + 1) / 2
+    let odd = w % 2;
+    let r = rounded_root(s * (odd + 1), guess(s, odd));
+    (w / 2 + 485) * 4503599627370496 + r
 }
 
 // `x.sqrt()`

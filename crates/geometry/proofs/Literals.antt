@@ -1,0 +1,37 @@
+-- The literals of the code, which MIR has by their bits, are the definitions' decimals. One law for each.
+use mathlib.Core.Path.{_≡_, refl}
+use mathlib.Core.Bool.{false}
+use lib.Ieee.{inf, binary64, div, ofBits, round}
+use Rattle.float.specs.Helpers.{decimal}
+
+pub zero-is : ofBits binary64 0 ≡ decimal 0 0
+unfolding round ofBits
+zero-is = refl
+
+pub two-is : ofBits binary64 0x4000_0000_0000_0000 ≡ decimal 2 0
+unfolding round ofBits
+two-is = refl
+
+pub three-is : ofBits binary64 0x4008_0000_0000_0000 ≡ decimal 3 0
+unfolding round ofBits
+three-is = refl
+
+-- 1e-12
+pub tiny-is : ofBits binary64 4427486594234968593 ≡ decimal 1 12
+unfolding round ofBits
+tiny-is = refl
+
+-- 1e-18
+pub short-is : ofBits binary64 0x3C32_725D_D1D2_43AC ≡ decimal 1 18
+unfolding round ofBits
+short-is = refl
+
+-- 0.08715574274765817
+pub limit-is : ofBits binary64 4590944653792149762 ≡ decimal 8715574274765817 17
+unfolding round ofBits
+limit-is = refl
+
+-- 1.0 / 0.0
+pub infinity-is : div binary64 (ofBits binary64 0x3FF0_0000_0000_0000) (ofBits binary64 0) ≡ inf false
+unfolding div ofBits
+infinity-is = refl

@@ -1,0 +1,16 @@
+use Rattle.geometry.proofs.Choices.{to-end, to-foot}
+use borrow.Author.Needs.{needs}
+use Rattle.geometry.proofs.sides.segment_square.Statement.{statement}
+use Rattle.geometry.proofs.sides.segment_square.Tie as tie
+
+returns : tie.Need-returns
+returns c = to-end _ _ _ _ (c .if1 .taken)
+
+clamp-unit-requires : tie.Need-clamp-unit-requires
+clamp-unit-requires c κs = search needs
+
+returns-2 : tie.Need-returns-2
+returns-2 c = to-foot _ _ _ _ _ (c .before .before .before .before .before .if1 .left) (c .before .before .before .before .clamp-unit .ensures)
+
+pub segment-square-spec : {M : Type 1} → statement M
+segment-square-spec = tie.close (tie.spec returns clamp-unit-requires returns-2)

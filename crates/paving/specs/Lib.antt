@@ -1,0 +1,12 @@
+pub mod Projecting
+pub mod Simple
+pub mod Row
+pub mod Given
+pub mod RowCall
+pub mod Passes
+pub mod Closing
+pub mod Fan
+pub mod Calls
+pub mod Plates
+pub mod Pairs
+pub mod Demands

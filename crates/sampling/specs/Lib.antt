@@ -1,0 +1,4 @@
+pub mod State
+pub mod Job
+pub mod Loop
+pub mod Sample
