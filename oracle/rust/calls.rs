@@ -3,7 +3,8 @@
 
 use crate::cut::alt_paving as rust;
 use crate::cut::alt_paving::{Options, Paving};
-use crate::cut::two_d::{Domain, Sizing};
+use crate::cut::two_d::Sizing;
+pub use crate::cut::two_d::Domain;
 use crate::limits::{self, Until};
 
 /// Lengths of the lent buffers.
@@ -243,6 +244,14 @@ pub fn sample(job: &Job, buffers: &mut Buffers) -> (u8, Counts) {
     job_until(job, buffers, Until::Sampling)
 }
 
+/// Sampling alone as the Rust does it, with no buffers: the number of nodes, or a refusal's number.
+pub fn sample_only(domain: &Domain, h: f64, options: &Options) -> Result<usize, u8> {
+    limits::begin(Until::Sampling);
+    let sizing = Sizing { size: h, all_quad: false };
+    let paving = rust::mesh_with_stats_options(domain, &sizing, options).map_err(|e| number(&e))?;
+    Ok(paving.points.len())
+}
+
 /// Number 25.
 fn state_fits(buffers: &Buffers, c: &Counts) -> bool {
     if c.points > limits::MAX_POINTS || c.quads > limits::MAX_QUADS || c.fronts > limits::MAX_FRONTS {
@@ -312,6 +321,25 @@ fn try_row(job: &Job, front: usize, buffers: &Buffers, counts: &Counts) -> Resul
 pub fn row(job: &Job, front: usize, buffers: &mut Buffers, counts: Counts) -> (u8, Counts) {
     let result = try_row(job, front, buffers, &counts);
     answer(buffers, counts, result)
+}
+
+/// A state in the Rust's own form, ready for its rows.
+#[derive(Clone)]
+pub struct Ready {
+    paving: Paving,
+    domain: Domain,
+}
+
+impl Ready {
+    pub fn new(job: &Job, buffers: &Buffers, counts: &Counts) -> Result<Ready, u8> {
+        Ok(Ready { paving: state(job, buffers, counts)?, domain: domain_of(job) })
+    }
+
+    /// The Rust's `next_row` and `commit_row` alone; whether a row was laid.
+    pub fn row(&mut self, job: &Job, front: usize) -> bool {
+        let row = rust::next_row(&self.paving, front, &self.domain, job.h, &job.options);
+        row.map(|row| rust::commit_row(&mut self.paving, front, row)).is_some()
+    }
 }
 
 fn try_close(job: &Job, buffers: &Buffers, counts: &Counts) -> Result<(Paving, usize), u8> {

@@ -86,6 +86,57 @@ pub fn distance_to_boundary(job: &Job, p: Point) -> f64 {
     domain_of(job).distance_to_boundary(p)
 }
 
+/// A plate's outline, ready for many calls.
+pub struct Plate(two_d::Domain);
+
+impl Plate {
+    pub fn new(job: &Job) -> Plate {
+        Plate(domain_of(job))
+    }
+    pub fn area(&self) -> f64 {
+        self.0.area()
+    }
+    pub fn contains(&self, p: Point) -> bool {
+        self.0.contains(p)
+    }
+    pub fn distance_to_boundary(&self, p: Point) -> f64 {
+        self.0.distance_to_boundary(p)
+    }
+}
+
+/// One front and its points, ready for many calls.
+pub struct Front(rust::Paving);
+
+impl Front {
+    pub fn new(points: &[Point], nodes: &[usize]) -> Front {
+        Front(rust::Paving {
+            points: points.iter().map(|p| [p[0], p[1], 0.0]).collect(),
+            fixed: vec![false; points.len()],
+            loops: vec![nodes.to_vec()],
+            quads: Vec::new(),
+            row_quads: 0,
+            core_quads: 0,
+            row_rounds: 0,
+            seam_rows: 0,
+        })
+    }
+    pub fn length(&self) -> f64 {
+        rust::front_length(&self.0, 0)
+    }
+    /// `distance_to_fronts` goes over one front as `loop_distance` does.
+    pub fn distance(&self, p: Point) -> f64 {
+        rust::loop_distance(&self.0, p, 0)
+    }
+    pub fn contains(&self, p: Point) -> bool {
+        rust::point_in_loops(&self.0, p)
+    }
+}
+
+/// The least corner value, as the closing of six nodes folds them.
+pub fn least_corner(q: [Point; 4]) -> f64 {
+    quality::corner_values(q).into_iter().fold(f64::INFINITY, f64::min)
+}
+
 pub fn corner_values(q: [Point; 4]) -> [f64; 4] {
     quality::corner_values(q)
 }

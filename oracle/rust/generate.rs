@@ -415,6 +415,15 @@ pub struct Made {
 
 /// Job `index` of a seed.
 pub fn job(seed: u64, index: u64) -> Made {
+    made(seed, index, true)
+}
+
+/// Job `index` of a seed for sampling alone: no search for a size whose rows reach a limit.
+pub fn sampling_job(seed: u64, index: u64) -> Made {
+    made(seed, index, false)
+}
+
+fn made(seed: u64, index: u64, rows: bool) -> Made {
     let r = &mut Random::new(seed, index);
     let shape_name = r.pick(&SHAPES);
     if shape_name == "ties" {
@@ -460,7 +469,7 @@ pub fn job(seed: u64, index: u64) -> Made {
             job.options.corner_margin = job.options.corner_margin.min(4.0);
             just_under(r, &mut job, 10, round / 4_000.0, round / 100.0, 30);
         }
-        "under 4,096 points" => {
+        "under 4,096 points" if rows => {
             job.options.max_row_rounds = 64;
             just_under(r, &mut job, 21, round / 1_000.0, round / 50.0, 12);
         }

@@ -53,13 +53,18 @@ fn main() {
         }
         (Some("selftest"), 3) => {
             let (seed, count) = seed_and_count(&words[1..]);
-            let report = compare::run(&mut compare::Oracle, seed, count);
-            print(&report.text());
-            let mut bad = !report.differences.is_empty();
-            for fault in 0..compare::FAULTS {
-                let n = compare::run(&mut compare::Faulty(fault), seed, count).differences.len();
-                print(&format!("fault {fault}: {n} differences\n"));
-                bad |= n == 0;
+            let mut bad = false;
+            type Run = fn(&mut dyn compare::Paver, u64, u64) -> compare::Report;
+            for (what, run) in [("whole", compare::run as Run), ("sample", compare::samples), ("rows", compare::rows)] {
+                let report = run(&mut compare::Oracle, seed, count);
+                print(&format!("{what}\n{}", report.text()));
+                bad |= !report.differences.is_empty();
+                for fault in 0..compare::FAULTS {
+                    let n = run(&mut compare::Faulty(fault), seed, count).differences.len();
+                    print(&format!("{what}, fault {fault}: {n} differences\n"));
+                    // a sampling has no quads to exchange
+                    bad |= n == 0 && !(what == "sample" && fault == 1);
+                }
             }
             exit(bad as i32)
         }

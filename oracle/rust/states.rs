@@ -136,6 +136,89 @@ pub fn damage(r: &mut Random, s: &mut State) {
     }
 }
 
+/// A way to break a sound state, that number 25 names, or to go just as far as it allows.
+type Way = (&'static str, fn(&mut Random, &mut Counts, &mut Buffers, usize));
+
+const WAYS: [Way; 22] = [
+    ("points over 4,096", |r, c, _, _| c.points = r.pick(&[4_097, 65_536, usize::MAX])),
+    ("quads over 4,096", |r, c, _, _| {
+        c.quads = r.pick(&[4_097, 65_536, usize::MAX]);
+        c.core_quads = c.quads - c.row_quads;
+    }),
+    ("fronts over 16", |r, c, _, _| c.fronts = r.pick(&[17, 65_536, usize::MAX])),
+    ("front nodes over 2,048", |r, c, b, _| {
+        if c.fronts > 0 {
+            b.front_lengths[r.below(c.fronts)] = r.pick(&[2_049, 65_535])
+        }
+    }),
+    ("a front of 0 to 3 nodes", |r, c, b, _| {
+        if c.fronts > 0 {
+            b.front_lengths[c.fronts - 1] = r.below(4) as u16
+        }
+    }),
+    ("a front node not below the points", |r, c, b, nodes| {
+        if nodes > 0 {
+            b.front_nodes[r.below(nodes)] = r.pick(&[c.points as u16, 65_535])
+        }
+    }),
+    ("a quad's node not below the points", |r, c, b, _| {
+        if c.quads > 0 {
+            b.quads[r.below(4 * c.quads)] = r.pick(&[c.points as u16, 65_535])
+        }
+    }),
+    ("fewer points than nodes", |r, c, _, _| c.points = r.below(c.points.max(1))),
+    ("a front node repeated in its front", |r, c, b, _| {
+        if c.fronts > 0 {
+            let n = b.front_lengths[0] as usize;
+            b.front_nodes[r.below(n)] = b.front_nodes[r.below(n)];
+        }
+    }),
+    ("a front node repeated in two fronts", |r, c, b, nodes| {
+        if c.fronts > 1 {
+            let n = b.front_lengths[0] as usize;
+            b.front_nodes[r.from_to(n, nodes - 1)] = b.front_nodes[r.below(n)];
+        }
+    }),
+    ("a coordinate not finite", |r, c, b, _| {
+        if c.points > 0 {
+            b.points[r.below(2 * c.points)] = r.pick(&[f64::NAN, f64::INFINITY, f64::NEG_INFINITY])
+        }
+    }),
+    ("a coordinate over 1,000,000,000", |r, c, b, _| {
+        if c.points > 0 {
+            b.points[r.below(2 * c.points)] = r.pick(&[1_000_000_000.0000001, -1_000_000_000.0000001, 1e300])
+        }
+    }),
+    ("a coordinate of 1,000,000,000", |r, c, b, _| {
+        if c.points > 0 {
+            b.points[r.below(2 * c.points)] = r.pick(&[1e9, -1e9])
+        }
+    }),
+    ("row_quads off", |r, c, _, _| c.row_quads = r.pick(&[c.row_quads + 1, usize::MAX])),
+    ("core_quads off", |r, c, _, _| c.core_quads = r.pick(&[c.core_quads + 1, usize::MAX, c.quads.wrapping_sub(c.row_quads).wrapping_sub(1)])),
+    ("row_quads and core_quads wrap to the quads", |_, c, _, _| {
+        c.row_quads = usize::MAX;
+        c.core_quads = c.quads + 1;
+    }),
+    ("quads fewer than their kinds", |_, c, _, _| c.quads = c.quads.saturating_sub(1)),
+    ("laid over the quads", |r, c, _, _| c.laid = r.pick(&[c.quads + 1, usize::MAX])),
+    ("laid as the quads", |_, c, _, _| c.laid = c.quads),
+    ("six times row_rounds over row_quads", |r, c, _, _| {
+        c.row_rounds = r.pick(&[c.row_quads / 6 + 1, usize::MAX, usize::MAX / 6 + 1])
+    }),
+    ("six times row_rounds as far as row_quads", |_, c, _, _| c.row_rounds = c.row_quads / 6),
+    ("passes begun of any number", |r, c, _, _| c.passes = r.pick(&[usize::MAX, 65, 0])),
+];
+
+/// The state after one of the ways, and which.
+pub fn one_fault(r: &mut Random, s: &State) -> (State, &'static str) {
+    let mut s = s.clone();
+    let nodes = s.buffers.front_lengths[..s.counts.fronts].iter().map(|&n| n as usize).sum();
+    let (name, way) = WAYS[r.below(WAYS.len())];
+    way(r, &mut s.counts, &mut s.buffers, nodes);
+    (s, name)
+}
+
 /// A state to call on: of a job, by hand, near a limit, or damaged.
 pub fn state(r: &mut Random, job: &Job, answer: &State) -> (State, &'static str) {
     let (mut s, mut kind) = (answer.clone(), "after a job");

@@ -1,11 +1,11 @@
 -- One binary digit of the root a turn: what holds before each turn of `whole_root`, and at its end.
-use mathlib.Core.Path.{_≡_, refl, sym, ap, _∙_, subst}
-use Prim.Native.Nat.{ℕ, zero, suc, _+_, _-_, _*_, _/_, _%_, _^_, _≤_, _<_}
-use native.Mathlib.Nat.{lt-of-lt-of-le, mul-assoc, mul-comm, mul-le-mul-right, mul-lt-mul-of-pos-right, pow-suc, eq-of-mul-eq-mul-right}
+use mathlib.Core.Path.{_≡_, sym, _∙_, subst}
+use Prim.Native.Nat.{ℕ, _+_, _-_, _*_, _/_, _%_, _^_, _≤_, _<_}
+use native.Mathlib.Nat.{lt-of-lt-of-le, mul-assoc, mul-comm, pow-suc, eq-of-mul-eq-mul-right}
 use native.Mathlib.Numerals.{add-one}
 use native.Mathlib.Omega.{arith}
 use lib.Dec.{lit<}
-use lib.Pow.{pow-mono, pow-pos}
+use lib.Pow.{pow-mono}
 use Rattle.float.specs.Root.{wholeRoot}
 use Rattle.float.proofs.Whole.{root-found}
 

@@ -7,7 +7,7 @@ use native.Mathlib.Omega.{arith}
 use lib.IntN.{ℤ, pos, negsuc}
 use lib.Dec.{T, ltb, leb, eqb, ltb→lt, leb→le, eqb→eq, lit<}
 use lib.Pow.{pow-add, pow-mono, pow-lt}
-use lib.Ieee.{Float, fin, binary64, up, down, fits}
+use lib.Ieee.{fin, binary64, up, down, fits}
 use lib.Ieee.Fits.{and-l, and-r}
 
 pub record Held (m : ℕ) (e : ℤ) : Type 0 where

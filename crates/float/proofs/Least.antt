@@ -1,15 +1,15 @@
 -- The least of some roots is the root of the least (`root-lesser`), so one root does. Sums of squares meet what that asks: they are NaNs or have a clear sign (`clear-square`, `clear-sum`, `clear-lesser`).
 use mathlib.Core.Path.{_≡_, refl, sym, ap, _∙_, subst}
 use mathlib.Core.Logic.{_⊎_, inl, inr}
-use mathlib.Core.Bool.{Bool, true, false, not, _&&_, _||_, Bool·beq, cond}
+use mathlib.Core.Bool.{Bool, true, false, not, _&&_, _||_, cond}
 use Prim.Native.Nat.{ℕ, zero, suc, _+_, _*_, _^_, _≤_, _<_}
-use native.Mathlib.Nat.{eq-or-lt-of-le, mul-pos, zero-lt-suc, lt-irrefl}
+use native.Mathlib.Nat.{eq-or-lt-of-le, mul-pos, zero-lt-suc}
 use native.Mathlib.Omega.{arith}
-use lib.IntN.{ℤ, pos}
+use lib.IntN.{pos}
 use lib.Dec.{T, ltb, eqb, ltb→lt, lt→ltb, eqb→eq}
-use lib.Ieee.{Float, nan, inf, fin, binary64, Format, prec, emax, low, up, down, odd, units, round, sum, add, mul, unlike, fits, isNan, lt, eq, le}
+use lib.Ieee.{Float, nan, inf, fin, binary64, Format, prec, emax, low, up, down, odd, units, round, sum, add, mul, fits, isNan, lt, eq, le}
 use lib.Ieee.Fits.{eq→eqb, and-l, up-pos, down-pos, round-is, cond-fits}
-use borrow.Author.Tests.{ltb-false, ltb-true}
+use borrow.Author.Tests.{ltb-false}
 use Rattle.float.specs.Helpers.{decimal, lesser}
 use Rattle.float.specs.Root.{root}
 use Rattle.float.proofs.Signs.{clash, yes, fits-zero}
@@ -171,6 +171,14 @@ root-lesser a b F G c d =
       | inl e ↦ ap root (ap (λ (v : Float). lesser v b) e ∙ nan-lesser b) ∙ sym (ap (λ (v : Float). lesser v (root b)) (ap root e ∙ root-nan) ∙ nan-lesser (root b))
       | inr n ↦ number-lesser a b F G c d n
     ]
+
+-- of two roots in order, the squares are
+pub root-reflects : (x y : Float) → T (fits binary64 x) → T (fits binary64 y) → T (clear x) → T (clear y) → T (not (isNan x)) → T (not (isNan y)) → T (lt (root x) (root y)) → T (lt x y)
+root-reflects x y F G c d n m h = go (lt x y) refl
+  where
+    go : (t : Bool) → lt x y ≡ t → T t
+    go true e = tt
+    go false e = not-both (root y) (root x) (root-clear y G d) (root-clear x F c) h (root-monotone y x G F (not-negative y d m) (total y x d c m n e))
 
 -- ---- what has a clear sign
 clear-odd : (k q i j : ℕ) → T (clear (odd k false q i j))

@@ -1,7 +1,6 @@
 -- The literals of the code, which MIR has by their bits, are the definitions' decimals. One law for each.
 use mathlib.Core.Path.{_≡_, refl}
-use lib.Ieee.{Float, fin, binary64, ofBits, round}
-use lib.IntN.{pos}
+use lib.Ieee.{binary64, ofBits, round}
 use Rattle.float.specs.Helpers.{decimal}
 
 pub zero-is : ofBits binary64 0 ≡ decimal 0 0

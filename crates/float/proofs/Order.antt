@@ -1,29 +1,28 @@
 -- The root keeps the order (`root-monotone`).
-use mathlib.Core.Path.{_≡_, refl, sym, ap, _∙_, subst}
+use mathlib.Core.Path.{_≡_, sym, ap, _∙_, subst}
 use mathlib.Core.Logic.{_⊎_, inl, inr}
-use mathlib.Core.Bool.{Bool, true, false, not, _&&_, _||_, Bool·beq, cond, true≢false}
-use Prim.Native.Nat.{ℕ, zero, suc, _+_, _-_, _*_, _/_, _%_, _^_, _≤_, _<_}
-use native.Mathlib.Nat.{le-refl, le-trans, le-of-eq, le-of-lt, lt-of-lt-of-le, lt-of-le-of-lt, lt-irrefl, eq-or-lt-of-le, le-of-suc-le-suc, mul-right-comm, mul-comm, mul-le-mul, mul-le-mul-right, le-of-mul-le-mul-right, pow-suc, mul-pos, zero-lt-suc}
+use mathlib.Core.Bool.{Bool, true, false, not, _||_, Bool·beq}
+use Prim.Native.Nat.{ℕ, zero, suc, _+_, _*_, _/_, _^_, _≤_, _<_}
+use native.Mathlib.Nat.{le-refl, le-trans, le-of-eq, le-of-lt, lt-of-le-of-lt, eq-or-lt-of-le, le-of-suc-le-suc, mul-right-comm, mul-le-mul, mul-le-mul-right, le-of-mul-le-mul-right, pow-suc, mul-pos, zero-lt-suc}
 use native.Mathlib.Omega.{arith}
 use lib.IntN.{ℤ, pos}
-use lib.Dec.{T, ltb, leb, eqb, ltb→lt, lt→ltb, nltb→le, eqb→eq, T-not, lit<}
+use lib.Dec.{T, ltb, eqb, ltb→lt, lt→ltb, eqb→eq}
 use lib.Pow.{pow-pos, pow-mono}
-use lib.Ieee.{Float, nan, inf, fin, binary64, Format, prec, emax, low, up, down, size, odd, units, round, sum, add, mul, fits, isNan, lt, eq, le}
+use lib.Ieee.{Float, nan, inf, fin, binary64, up, down, units, round, below, level, fits, isNan, lt, eq, le}
 use lib.Ieee.Digits.{size-reaches, size-lt}
-use lib.Ieee.Fits.{eq→eqb, and-l, up-pos, down-pos}
+use lib.Ieee.Fits.{and-l, up-pos, down-pos}
 use lib.Ieee.Exact.{HasValue}
 use lib.Ieee.Nearest.{div-mono}
 use lib.Ieee.Order.{le-of-values}
 use lib.Ieee.Positive.{num, den, positive, den-pos, le→cross, above, above-of-le}
-use Rattle.float.specs.Helpers.{decimal, lesser}
+use Rattle.float.specs.Helpers.{decimal}
 use Rattle.float.specs.Root.{root}
 use Rattle.float.proofs.Held.{pow-lt-back}
-use Rattle.float.proofs.Signs.{clash, yes, fits-zero}
 use Rattle.float.proofs.Whole.{root-mono}
 use Rattle.float.proofs.Scaled.{Scaled, moved, found, four, size-of, moved-times, is-root, least-kept, most-kept, root-value}
 use Rattle.float.proofs.Patterns.{scaled, root-of}
 use Rattle.float.proofs.Patterns as patterns
-use Rattle.float.proofs.Theorems.{root-nearest, same-value}
+use Rattle.float.proofs.Theorems.{root-nearest}
 
 -- ---- in units
 module _ (n s w n' s' w' : ℕ) (S : Scaled n s w) (S' : Scaled n' s' w') (h : n ≤ n') where
@@ -97,6 +96,26 @@ pub or-l : (a b : Bool) → T a → T (a || b)
 or-l true b t = tt
 or-l false b t = absurd t
 
+-- a zero's size, over any fraction
+nil : (a b : ℕ) → 0 * a * b ≡ 0
+nil a b = omega arith
+
+at-zero-le : (s : Bool) (a b : ℕ) → a ≡ 0 → T (below s a false b || level s a false b)
+at-zero-le s zero zero e = go s
+  where
+    go : (s : Bool) → T (below s 0 false 0 || level s 0 false 0)
+    go true = tt
+    go false = tt
+at-zero-le true zero (suc b) e = or-l (ltb 0 (0 + suc b)) (level true 0 false (suc b)) (lt→ltb 0 (0 + suc b) (some b))
+  where
+    some : (b : ℕ) → 0 < 0 + suc b
+    some b = omega arith
+at-zero-le false zero (suc b) e = or-l (ltb 0 (suc b)) (level false 0 false (suc b)) (lt→ltb 0 (suc b) (zero-lt-suc b))
+at-zero-le s (suc a) b e = absurd (none a e)
+  where
+    none : (a : ℕ) → suc a ≡ 0 → ⊥
+    none a e = omega arith
+
 -- a zero is at most whatever has a clear sign and is no NaN
 pub zero-le : (s : Bool) (e : ℤ) (v : Float) → T (clear v) → T (not (isNan v)) → T (le (fin s 0 e) v)
 unfolding le lt eq isNan
@@ -104,28 +123,7 @@ zero-le s e nan c n = absurd n
 zero-le s e (inf true) c n = absurd c
 zero-le s e (inf false) c n = tt
 zero-le s e (fin true m d) c n = absurd c
-zero-le true e (fin false zero d) c n = or-r (ltb 0 (0 * up e * down d + 0 * up d * down e)) _ (both (0 * up e * down d) (0 * up d * down e) (nil (up e) (down d)) (nil (up d) (down e)))
-  where
-    nil : (a b : ℕ) → 0 * a * b ≡ 0
-    nil a b = omega arith
-
-    both : (a b : ℕ) → a ≡ 0 → b ≡ 0 → T (eqb a b && (false || eqb a 0))
-    both a b p q = rw (p, q) tt
-zero-le false e (fin false zero d) c n = or-r (ltb (0 * up e * down d) (0 * up d * down e)) _ (both (0 * up e * down d) (0 * up d * down e) (nil (up e) (down d)) (nil (up d) (down e)))
-  where
-    nil : (a b : ℕ) → 0 * a * b ≡ 0
-    nil a b = omega arith
-
-    both : (a b : ℕ) → a ≡ 0 → b ≡ 0 → T (eqb a b && true)
-    both a b p q = rw (p, q) tt
-zero-le true e (fin false (suc m) d) c n = or-l (ltb 0 (0 * up e * down d + suc m * up d * down e)) _ (lt→ltb 0 (0 * up e * down d + suc m * up d * down e) (go (0 * up e * down d) (suc m * up d * down e) (mul-pos (mul-pos (zero-lt-suc m) (up-pos d)) (down-pos e))))
-  where
-    go : (a b : ℕ) → 0 < b → 0 < a + b
-    go a b h = omega arith
-zero-le false e (fin false (suc m) d) c n = or-l (ltb (0 * up e * down d) (suc m * up d * down e)) _ (lt→ltb (0 * up e * down d) (suc m * up d * down e) (go (up e) (down d) (suc m * up d * down e) (mul-pos (mul-pos (zero-lt-suc m) (up-pos d)) (down-pos e))))
-  where
-    go : (a b c : ℕ) → 0 < c → 0 * a * b < c
-    go a b c h = omega arith
+zero-le s e (fin false m d) c n = at-zero-le s (0 * up e * down d) (m * up d * down e) (nil (up e) (down d))
 
 -- ---- the root of a value with a clear sign is another
 pub root-clear : (x : Float) → T (fits binary64 x) → T (clear x) → T (clear (root x))
@@ -175,31 +173,22 @@ positive-endless (fin true m e) p = absurd p
 positive-endless (fin false m e) p = tt
 
 -- no zero is at most a negative number
+not-le-negative : (s : Bool) (a b : ℕ) → a ≡ 0 → 0 < b → T (below s a true b || level s a true b) → ⊥
+not-le-negative s a b e h t = elim (or-split (below s a true b) (level s a true b) t) [ inl u ↦ less s u | inr u ↦ differ a b e h (eqb→eq a b (and-l (eqb a b) (Bool·beq s true || eqb a 0) u)) ]
+  where
+    differ : (a b : ℕ) → a ≡ 0 → 0 < b → a ≡ b → ⊥
+    differ a b p q r = omega arith
+
+    under : (a b : ℕ) → a ≡ 0 → b < a → ⊥
+    under a b p q = omega arith
+
+    less : (s : Bool) → T (below s a true b) → ⊥
+    less false u = u
+    less true u = under a b e (ltb→lt b a u)
+
 not-below-zero : (s : Bool) (e : ℤ) (n : ℕ) (d : ℤ) → T (le (fin s 0 e) (fin true (suc n) d)) → ⊥
 unfolding le lt eq
-not-below-zero false e n d h = go (0 * up e * down d) (suc n * up d * down e) _ (nil (up e) (down d)) (mul-pos (mul-pos (zero-lt-suc n) (up-pos d)) (down-pos e)) h
-  where
-    nil : (a b : ℕ) → 0 * a * b ≡ 0
-    nil a b = omega arith
-
-    clash' : (a b : ℕ) → a ≡ 0 → 0 < b → a ≡ b → ⊥
-    clash' a b p q r = omega arith
-
-    go : (a b : ℕ) (c : Bool) → a ≡ 0 → 0 < b → T (eqb a b && c) → ⊥
-    go a b c p q t = clash' a b p q (eqb→eq a b (and-l (eqb a b) c t))
-not-below-zero true e n d h = go (0 * up e * down d) (suc n * up d * down e) _ (nil (up e) (down d)) (mul-pos (mul-pos (zero-lt-suc n) (up-pos d)) (down-pos e)) h
-  where
-    nil : (a b : ℕ) → 0 * a * b ≡ 0
-    nil a b = omega arith
-
-    clash' : (a b : ℕ) → a ≡ 0 → 0 < b → a ≡ b → ⊥
-    clash' a b p q r = omega arith
-
-    less : (a b : ℕ) → a ≡ 0 → b < a → ⊥
-    less a b p q = omega arith
-
-    go : (a b : ℕ) (c : Bool) → a ≡ 0 → 0 < b → T (ltb b a || (eqb a b && c)) → ⊥
-    go a b c p q t = elim (or-split (ltb b a) (eqb a b && c) t) [ inl u ↦ less a b p (ltb→lt b a u) | inr u ↦ clash' a b p q (eqb→eq a b (and-l (eqb a b) c u)) ]
+not-below-zero s e n d h = not-le-negative s (0 * up e * down d) (suc n * up d * down e) (nil (up e) (down d)) (mul-pos (mul-pos (zero-lt-suc n) (up-pos d)) (down-pos e)) h
 
 -- ---- the order is kept
 above-zero-mono : (m : ℕ) (e : ℤ) (y : Float) → T (fits binary64 (fin false (suc m) e)) → T (fits binary64 y) → T (le (fin false (suc m) e) y) → T (above y) → T (le (root (fin false (suc m) e)) (root y))

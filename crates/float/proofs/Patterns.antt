@@ -6,7 +6,7 @@ use Prim.Native.Nat.{ℕ, zero, suc, _+_, _-_, _*_, _/_, _%_, _^_, _≤_, _<_}
 use native.Mathlib.Nat.{le-trans, le-of-eq, lt-of-lt-of-le, lt-of-le-of-lt, lt-irrefl, mul-assoc, mul-one, mul-le-mul-right, mod-lt, mod-eq-of-lt, add-comm, mul-pos, zero-lt-suc, div-eq-of-eq-mul-left, div-eq-of-lt}
 use native.Mathlib.Omega.{arith}
 use lib.Dec.{T, leb, eqb, nleb→lt, ltb, ltb→lt, nltb→le, lt→ltb, T-not, not-T, lit<, lit≤}
-use lib.Pow.{pow-add, pow-pos, pow-mono, shl-lt}
+use lib.Pow.{pow-add, pow-pos, shl-lt}
 use lib.Count.{leadingZeros, leading-top}
 use lib.Ieee.{Float, nan, inf, fin, binary64, up, down, odd, fits, isNan, nanBits, ofFields, ofBits, toBits, lt, eq, div}
 use lib.Ieee.Fits.{eq→eqb, up-pos}

@@ -1,14 +1,13 @@
 -- The root of n units of the smallest f64, for an n that is s * 2 ^ (w - 52) with a significand s of 53 digits: what `wholeRoot` finds of it, the value that `rootOfUnits` rounds it to, and that value's bits.
 use mathlib.Core.Path.{_≡_, refl, sym, ap, _∙_, subst}
-use mathlib.Core.Bool.{Bool, true, false, not, cond, true≢false}
+use mathlib.Core.Bool.{Bool, true, false, cond, true≢false}
 use Prim.Native.Nat.{ℕ, zero, suc, _+_, _-_, _*_, _/_, _%_, _^_, _≤_, _<_, compare}
-use native.Mathlib.Nat.{le-trans, le-of-eq, le-antisymm, lt-of-lt-of-le, lt-of-le-of-lt, lt-of-not-le, not-le-of-lt, mul-assoc, mul-comm, mul-one, mul-pos, mul-le-mul-right, mul-lt-mul-of-pos-right, le-of-mul-le-mul-right, lt-of-mul-lt-mul-right, div-eq-of-eq-mul-left, pow-suc, suc-add}
-use native.Mathlib.Numerals.{add-one}
+use native.Mathlib.Nat.{le-trans, le-of-eq, le-antisymm, lt-of-lt-of-le, lt-of-le-of-lt, lt-of-not-le, not-le-of-lt, mul-assoc, mul-comm, mul-pos, mul-le-mul-right, mul-lt-mul-of-pos-right, le-of-mul-le-mul-right, lt-of-mul-lt-mul-right, div-eq-of-eq-mul-left, pow-suc, suc-add}
 use native.Mathlib.Omega.{arith}
-use lib.Dec.{T, eqb, eqb→eq, lit<, lit≤}
+use lib.Dec.{T, eqb, eqb→eq, lit<}
 use lib.Pow.{pow-add, pow-pos, pow-mono, shl-lt, shl-shr}
 use lib.Ieee.{Float, nan, inf, fin, binary64, up, down, size, round, nearest, fits, toBits, ofBits}
-use lib.Ieee.Digits.{size-lt, size-le, size-reaches}
+use lib.Ieee.Digits.{size-lt, size-le}
 use lib.Ieee.Fits.{down-pos, round-fits}
 use lib.Ieee.Bits.{ofBits-toBits}
 use lib.Ieee.Exact.{HasValue}

@@ -3,12 +3,11 @@
 use mathlib.Core.Path.{_≡_, refl, sym, ap, _∙_, subst}
 use mathlib.Core.Logic.{_⊎_, inl, inr}
 use Prim.Native.Nat.{ℕ, zero, suc, _+_, _-_, _*_, _/_, _%_, _^_, _≤_, _<_}
-use native.Mathlib.Nat.{le-trans, le-of-eq, le-of-lt, lt-of-lt-of-le, lt-of-le-of-lt, lt-irrefl, mul-assoc, mul-comm, mul-right-comm, mul-pos, mul-le-mul-right, mul-le-mul-left, mul-lt-mul-of-pos-right, lt-of-mul-lt-mul-right, pow-suc, eq-or-lt-of-le}
+use native.Mathlib.Nat.{le-trans, le-of-eq, lt-of-lt-of-le, lt-of-le-of-lt, lt-irrefl, mul-assoc, mul-comm, mul-pos, mul-le-mul-right, mul-le-mul-left, mul-lt-mul-of-pos-right, lt-of-mul-lt-mul-right, pow-suc, eq-or-lt-of-le}
 use native.Mathlib.Omega.{arith}
-use lib.Dec.{lit<}
 use lib.Pow.{pow-add, pow-pos, pow-mono}
-use Rattle.float.proofs.Whole.{IsRoot, square-le}
-use Rattle.float.proofs.Scaled.{Scaled, moved, found, four, moved-times, is-root, least-found, most-found}
+use Rattle.float.proofs.Whole.{square-le}
+use Rattle.float.proofs.Scaled.{Scaled, moved, found, four, moved-times, is-root, least-found}
 use Rattle.float.proofs.Patterns.{here-or-on}
 
 -- ---- the f64 nearest to R = r * 2 ^ k on either side, for an r of 53 digits: Y = m * 2 ^ p has at most 53 too

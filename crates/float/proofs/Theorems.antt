@@ -2,22 +2,19 @@
 -- So no tie arises, and there is no other such f64 (`nearest-unique`). Where the exact root is an f64, it is that (`root-exact`).
 use mathlib.Core.Path.{_≡_, refl, sym, ap, _∙_, subst}
 use mathlib.Core.Logic.{_⊎_, inl, inr}
-use mathlib.Core.Bool.{Bool, true, false, not, true≢false}
-use Prim.Native.Nat.{ℕ, zero, suc, _+_, _-_, _*_, _/_, _%_, _^_, _≤_, _<_}
-use native.Mathlib.Nat.{le-trans, le-of-eq, le-antisymm, lt-of-lt-of-le, lt-of-le-of-lt, lt-irrefl, mul-assoc, mul-comm, mul-left-comm, mul-right-comm, mul-pos, mul-le-mul-right, mul-lt-mul-of-pos-right, lt-of-mul-lt-mul-right, div-eq-of-eq-mul-left, eq-or-lt-of-le}
+use mathlib.Core.Bool.{Bool, true, false, not}
+use Prim.Native.Nat.{ℕ, zero, suc, _+_, _-_, _*_, _/_, _^_, _≤_, _<_}
+use native.Mathlib.Nat.{le-trans, le-of-eq, lt-of-lt-of-le, lt-of-le-of-lt, lt-irrefl, mul-assoc, mul-comm, mul-right-comm, mul-pos, mul-le-mul-right, mul-lt-mul-of-pos-right, lt-of-mul-lt-mul-right, div-eq-of-eq-mul-left, eq-or-lt-of-le}
 use native.Mathlib.Omega.{arith}
-use lib.IntN.{ℤ, pos}
-use lib.Dec.{T, ltb, ltb→lt, lt→ltb, lit<, lit≤}
+use lib.Dec.{T, ltb, ltb→lt, lt→ltb, lit<}
 use lib.Pow.{pow-pos}
 use lib.Ieee.{Float, nan, inf, fin, binary64, up, down, size, fits, lt, toBits, ofBits}
-use lib.Ieee.Fits.{down-pos}
 use lib.Ieee.Bits.{ofBits-toBits}
 use lib.Ieee.Exact.{HasValue}
 use lib.Ieee.Nearest.{div-same}
 use lib.Ieee.Positive.{num, den, positive, den-pos, value→cross, positive-of-value}
-use Rattle.float.specs.Root.{root, rootOfUnits}
+use Rattle.float.specs.Root.{root}
 use Rattle.float.proofs.Held.{held, power, in-units}
-use Rattle.float.proofs.Signs.{clash, fits-zero}
 use Rattle.float.proofs.Whole.{square-le}
 use Rattle.float.proofs.Scaled.{Scaled, found, root-value, root-fits, least-kept}
 use Rattle.float.proofs.Patterns.{units, root-of, scaled, here-or-on}
@@ -71,25 +68,21 @@ exact-units x F p =
     u .2 .1 ∙ ap (λ (n : ℕ). n * den x) (sym (div-eq-of-eq-mul-left (den-pos x) (u .2 .1)))
 
 -- ---- the order of two such values is that of their units
-pub lt→cross : (x y : Float) → T (unsigned x) → T (unsigned y) → T (lt x y) → num x * den y < num y * den x
+lt-is : (x y : Float) → T (unsigned x) → T (unsigned y) → lt x y ≡ ltb (num x * den y) (num y * den x)
 unfolding lt
-lt→cross nan y u v h = absurd u
-lt→cross (inf s) y u v h = absurd u
-lt→cross (fin true m e) y u v h = absurd u
-lt→cross (fin false m e) nan u v h = absurd v
-lt→cross (fin false m e) (inf t) u v h = absurd v
-lt→cross (fin false m e) (fin true n d) u v h = absurd v
-lt→cross (fin false m e) (fin false n d) u v h = ltb→lt (m * up e * down d) (n * up d * down e) h
+lt-is nan y u v = absurd u
+lt-is (inf s) y u v = absurd u
+lt-is (fin true m e) y u v = absurd u
+lt-is (fin false m e) nan u v = absurd v
+lt-is (fin false m e) (inf t) u v = absurd v
+lt-is (fin false m e) (fin true n d) u v = absurd v
+lt-is (fin false m e) (fin false n d) u v = refl
+
+pub lt→cross : (x y : Float) → T (unsigned x) → T (unsigned y) → T (lt x y) → num x * den y < num y * den x
+lt→cross x y u v h = ltb→lt (num x * den y) (num y * den x) (subst T (lt-is x y u v) h)
 
 pub cross→lt : (x y : Float) → T (unsigned x) → T (unsigned y) → num x * den y < num y * den x → T (lt x y)
-unfolding lt
-cross→lt nan y u v h = absurd u
-cross→lt (inf s) y u v h = absurd u
-cross→lt (fin true m e) y u v h = absurd u
-cross→lt (fin false m e) nan u v h = absurd v
-cross→lt (fin false m e) (inf t) u v h = absurd v
-cross→lt (fin false m e) (fin true n d) u v h = absurd v
-cross→lt (fin false m e) (fin false n d) u v h = lt→ltb (m * up e * down d) (n * up d * down e) h
+cross→lt x y u v h = subst T (sym (lt-is x y u v)) (lt→ltb (num x * den y) (num y * den x) h)
 
 -- a / b < c / d in units l
 units-lt : (a b c d y z l : ℕ) → 0 < l → a * l ≡ y * b → c * l ≡ z * d → a * d < c * b → y < z

@@ -1,9 +1,8 @@
 -- The whole-number root: it is the one number q with q * q ≤ n < (q + 1) * (q + 1), and the digit by digit way to it.
-use mathlib.Core.Path.{_≡_, refl, sym, ap, _∙_, subst}
+use mathlib.Core.Path.{_≡_, sym, subst}
 use mathlib.Core.Bool.{Bool, true, false, not, cond}
-use mathlib.Core.Logic.{_⊎_, inl, inr}
-use Prim.Native.Nat.{ℕ, zero, suc, _+_, _-_, _*_, _/_, _%_, _^_, _≤_, _<_}
-use native.Mathlib.Nat.{le-trans, lt-of-le-of-lt, lt-of-lt-of-le, le-antisymm, lt-of-not-le, not-le-of-lt, mul-le-mul, div-lt-iff-lt-mul, pow-suc, le-of-suc-le-suc, lt-irrefl}
+use Prim.Native.Nat.{ℕ, zero, suc, _+_, _*_, _/_, _^_, _≤_, _<_}
+use native.Mathlib.Nat.{le-trans, lt-of-le-of-lt, lt-of-lt-of-le, le-antisymm, lt-of-not-le, mul-le-mul, div-lt-iff-lt-mul, pow-suc, le-of-suc-le-suc, lt-irrefl}
 use native.Mathlib.Numerals.{add-one}
 use native.Mathlib.Omega.{arith}
 use lib.Dec.{T, leb, leb→le, nleb→lt, lit<}

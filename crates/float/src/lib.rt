@@ -72,6 +72,9 @@ pub fn round_away(x: f64) -> usize
     0
 }
 
+// 2^52: the weight of a significand's leading digit.
+const LEAD: u64 = 0x10_0000_0000_0000;
+
 // The root of a * 4^27, cut to a whole number: one binary digit a turn. `rest` is what the square of the digits
 // so far leaves of the digits to the base 4 so far, and `left` holds the digits to come.
 fn whole_root(a: u64) -> u64
@@ -83,8 +86,8 @@ fn whole_root(a: u64) -> u64
     let mut q = 0u64;
     let mut i = 0u64;
     while i < 54 {
-        rest = rest * 4 + left / 4503599627370496;
-        left = left % 4503599627370496 * 4;
+        rest = rest * 4 + left / LEAD;
+        left = left % LEAD * 4;
         let odd = q * 4 + 1;
         q = q * 2;
         if odd <= rest {
@@ -96,25 +99,34 @@ fn whole_root(a: u64) -> u64
     q
 }
 
+// 2^26: a significand is taken apart there.
+const HALF: u64 = 0x400_0000;
+// 2^30: how far the upper parts of two squares may differ, either way; twice that, and that many halves.
+const SLACK: u64 = 0x4000_0000;
+
+const SLACK_TWICE: u64 = 0x8000_0000;
+
+const SLACK_HALVES: u64 = 0x100_0000_0000_0000;
+
 // Whether g is the whole number nearest to the root of a * 2^52: its square is within g of that number. Each part of
 // the square is taken off by itself, and where one does not fit the answer is no.
 fn is_nearest(a: u64, g: u64) -> bool
     requires { ⌜ (a < 2 ^ 54) × (g < 2 ^ 53) ⌝ }
     ensures { λ r. ⌜ (r ≡ true → (g * g < a * 2 ^ 52 + g) × (a * 2 ^ 52 ≤ g * g + g)) ⌝ }
 {
-    let h = g / 67108864;
-    let l = g % 67108864;
+    let h = g / HALF;
+    let l = g % HALF;
     let hh = h * h;
     if hh <= a {
         let d = a - hh;
-        if d < 1073741824 {
+        if d < SLACK {
             let hl = h * l * 2;
-            let over = d * 67108864 + 1073741824;
+            let over = d * HALF + SLACK;
             if hl <= over {
                 let e = over - hl;
-                if e < 2147483648 {
-                    let t = e * 67108864;
-                    let u = l * l + 72057594037927936;
+                if e < SLACK_TWICE {
+                    let t = e * HALF;
+                    let u = l * l + SLACK_HALVES;
                     if u < t + g {
                         return t <= u + g;
                     }
@@ -147,10 +159,17 @@ fn digits_of(x: f64) -> u64
     ensures { λ r. ⌜ r < 2 ^ 53 ⌝ }
 {
     if x == x {
-        return f64::to_bits(x) % 4503599627370496 + 4503599627370496;
+        return f64::to_bits(x) % LEAD + LEAD;
     }
     0
 }
+
+// The bits of 1/2 and of 1, and what those of the root of 2 are above the last.
+const ONE_HALF_BITS: u64 = 0x3FE0_0000_0000_0000;
+
+const ONE_BITS: u64 = 0x3FF0_0000_0000_0000;
+
+const ROOT_TWO_ABOVE: u64 = 0x6_A09E_667F_3BCD;
 
 // A first guess at the root of s or 2s, for an s of 53 digits: a polynomial, a step of Newton's method, and a last one
 // whose remainder is exact. Nearly always it is the right one, and nothing rests on that.
@@ -159,9 +178,9 @@ fn guess(s: u64, odd: u64) -> u64
     ensures { λ r. ⌜ r < 2 ^ 53 ⌝ }
 {
     // m is from 1 up to 2, y is m or 2m, and scale is 1 or the root of 2
-    let m = f64::from_bits(s + 4602678819172646912);
-    let y = f64::from_bits(s + 4602678819172646912 + odd * 4503599627370496);
-    let scale = f64::from_bits(odd * 1865452045155277 + 4607182418800017408);
+    let m = f64::from_bits(s + ONE_HALF_BITS);
+    let y = f64::from_bits(s + ONE_HALF_BITS + odd * LEAD);
+    let scale = f64::from_bits(odd * ROOT_TWO_ABOVE + ONE_BITS);
     let mm = m * m;
     let p = scale
         * (0.32395383 + m * 0.91971188 + mm * (m * 0.088572551 - 0.32149351 - mm * 0.010736388));
@@ -177,7 +196,7 @@ fn root_bits(s: u64, w: u64) -> u64
 {
     let odd = w % 2;
     let r = rounded_root(s * (odd + 1), guess(s, odd));
-    (w / 2 + 485) * 4503599627370496 + r
+    (w / 2 + 485) * LEAD + r
 }
 
 // `x.sqrt()`
@@ -187,12 +206,12 @@ pub fn root(x: f64) -> f64
     if x > 0.0 {
         if x < 1.0 / 0.0 {
             let b = f64::to_bits(x);
-            if b < 4503599627370496 {
+            if b < LEAD {
                 let z = u64::leading_zeros(b) as u64;
                 return f64::from_bits(root_bits(b << (z - 11), 63 - z));
             }
-            let w = b / 4503599627370496 + 51;
-            return f64::from_bits(root_bits(b % 4503599627370496 + 4503599627370496, w));
+            let w = b / LEAD + 51;
+            return f64::from_bits(root_bits(b % LEAD + LEAD, w));
         }
         return x;
     }

@@ -9,7 +9,7 @@ use Rattle.geometry.specs.Rings.{next}
 use Rattle.paving.specs.Pairs.{isPair, sum, sides}
 use Rattle.paving.proofs.Sums.{sum-none}
 use Rattle.paving.proofs.Occurs.{occurs, occurs-here, occurs-once}
-use Rattle.paving.proofs.Sides.{pair-cases, pair-le, next-below}
+use Rattle.paving.proofs.Sides.{pair-cases, pair-flip, next-below}
 
 module _ (xs : List ℕ) (one : (c : ℕ) → occurs c xs ≤ 1) (u v : ℕ) (inU : u < length xs) (inV : v < length xs) (apartUV : next (length xs) u ≡ v → ⊥) (apartVU : next (length xs) v ≡ u → ⊥) where
   abbrev at : ℕ → ℕ
@@ -44,22 +44,8 @@ module _ (xs : List ℕ) (one : (c : ℕ) → occurs c xs ≤ 1) (u v : ℕ) (in
       found : (c k : ℕ) → k < n → c ≡ at k → 0 < occurs c xs
       found c k l e = rw e (occurs-here xs k l)
 
-      swapped : (i : ℕ) → i < n → (b ≡ at u) × (a ≡ at v) → isPair a b (at i) (at (next n i)) ≡ 0
-      swapped i l e =
-          elim (pair-cases a b (at i) (at (next n i))) [
-            | inl g ↦
-                let x : v ≡ i = place v i inV l (sym (e .1) ∙ g .0) in
-                let y : u ≡ next n i = place u (next n i) inU (next-below n i l) (sym (e .0) ∙ g .1) in
-                absurd (apartVU (ap (next n) x ∙ sym y))
-            | inr (inl g) ↦
-                let x : u ≡ i = place u i inU l (sym (e .0) ∙ g .1) in
-                let y : v ≡ next n i = place v (next n i) inV (next-below n i l) (sym (e .1) ∙ g .0) in
-                absurd (apartUV (ap (next n) x ∙ sym y))
-            | inr (inr g) ↦ g
-          ]
-
       go : ((a ≡ at u) × (b ≡ at v) × (isPair a b (at u) (at v) ≡ 1)) ⊎ (((a ≡ at v) × (b ≡ at u) × (isPair a b (at u) (at v) ≡ 1)) ⊎ (isPair a b (at u) (at v) ≡ 0))
           → (sides a b xs ≡ 0) × (0 < occurs a xs) × (0 < occurs b xs)
       go (inl g) = (sum-none _ n (λ i l. no-side a b i l (g .0, g .1)), found a u inU (g .0), found b v inV (g .1))
-      go (inr (inl g)) = (sum-none _ n (λ i l. swapped i l (g .1, g .0)), found a v inV (g .0), found b u inU (g .1))
+      go (inr (inl g)) = (sum-none _ n (λ i l. pair-flip a b _ _ ∙ no-side b a i l (g .1, g .0)), found a v inV (g .0), found b u inU (g .1))
       go (inr (inr g)) = absurd (omega arith)

@@ -17,7 +17,7 @@ use Rattle.paving.specs.Fan.{fanQuads}
 use Rattle.paving.proofs.Lists.{map-append, all-append, below-or-from, twice}
 use Rattle.paving.proofs.Sums.{sum-cong, sum-add, sum-none, sum-once, sum-next, sum-pairs}
 use Rattle.paving.proofs.Occurs.{occurs, occursInAll, occurs-none, occurs-once}
-use Rattle.paving.proofs.Sides.{pair-cases, pair-le, pair-not-left, pair-not-right, pair-swap, next-cases, quad-sides, sides-append-all, sides-none-left, sides-none-right}
+use Rattle.paving.proofs.Sides.{pair-cases, pair-le, pair-swap, next-cases, quad-sides, sides-append-all, sides-none-left, sides-none-right}
 use Rattle.paving.proofs.Invariant.{Good, Below, noQuad, laidCount, laid-append, passes-append}
 use Rattle.paving.proofs.ClosingGood.{turned-sides}
 

@@ -13,7 +13,7 @@ use Rattle.paving.specs.Pairs.{isPair, sum, sides, sidesOfAll}
 use Rattle.paving.proofs.Lists.{map-append, below-or-from}
 use Rattle.paving.proofs.Sums.{sum-cong, sum-add, sum-none, sum-once, sum-next}
 use Rattle.paving.proofs.Occurs.{occurs, occurs-none, occurs-once, numbered-length, numbered-at}
-use Rattle.paving.proofs.Sides.{pair-cases, pair-le, pair-not-left, pair-not-right, pair-swap, next-below, quad-sides, sides-append-all}
+use Rattle.paving.proofs.Sides.{pair-cases, pair-le, pair-not-left, pair-flip, pair-swap, next-below, quad-sides, sides-append-all}
 
 pub row-length : (old : List ℕ) (first k : ℕ) → length (rowQuads old first k) ≡ k
 unfolding rowQuads
@@ -99,7 +99,7 @@ module _ (a b : ℕ) (old : List ℕ) (first : ℕ) where
 
     pub rungs-none-right : occurs b old ≡ 0 → ((i : ℕ) → i < length old → b ≡ first + i → ⊥) → rungs ≡ 0
     unfolding rungs
-    rungs-none-right z h = sum-none rung n (λ i l. pair-not-right a b (at i) (first + i) (occurs-none b old i z l) (h i l))
+    rungs-none-right z h = sum-none rung n (λ i l. pair-flip a b (at i) (first + i) ∙ pair-not-left b a (at i) (first + i) (occurs-none b old i z l) (h i l))
 
     pub rungs-once : rungs ≤ 1
     unfolding rungs

@@ -33,12 +33,9 @@ pair-cases a b u v = go (eqb a u) refl (eqb b v) refl (eqb a v) refl (eqb b u) r
 pub pair-le : (a b u v : ℕ) → isPair a b u v ≤ 1
 pair-le a b u v = elim (pair-cases a b u v) [ inl h ↦ omega (arith, h .2) | inr (inl h) ↦ omega (arith, h .2) | inr (inr h) ↦ omega (arith, h) ]
 
--- a is neither of the two; b is neither
+-- a is neither of the two
 pub pair-not-left : (a b u v : ℕ) → (a ≡ u → ⊥) → (a ≡ v → ⊥) → isPair a b u v ≡ 0
 pair-not-left a b u v p q = elim (pair-cases a b u v) [ inl h ↦ absurd (p (h .0)) | inr (inl h) ↦ absurd (q (h .0)) | inr (inr h) ↦ h ]
-
-pub pair-not-right : (a b u v : ℕ) → (b ≡ u → ⊥) → (b ≡ v → ⊥) → isPair a b u v ≡ 0
-pair-not-right a b u v p q = elim (pair-cases a b u v) [ inl h ↦ absurd (q (h .1)) | inr (inl h) ↦ absurd (p (h .1)) | inr (inr h) ↦ h ]
 
 or-swap : (p q : Bool) → (p || q) ≡ (q || p)
 or-swap true true = refl
@@ -46,10 +43,22 @@ or-swap true false = refl
 or-swap false true = refl
 or-swap false false = refl
 
--- the other way round
+-- the side the other way round, and the pair the other way round
 pub pair-swap : (a b u v : ℕ) → isPair a b u v ≡ isPair a b v u
 unfolding isPair
 pair-swap a b u v = ap (λ t. cond t 1 0) (or-swap (eqb a u && eqb b v) (eqb a v && eqb b u))
+
+and-swap : (p q : Bool) → (p && q) ≡ (q && p)
+and-swap true true = refl
+and-swap true false = refl
+and-swap false true = refl
+and-swap false false = refl
+
+pub pair-flip : (a b u v : ℕ) → isPair a b u v ≡ isPair b a u v
+unfolding isPair
+pair-flip a b u v =
+    ap (λ t. cond t 1 0)
+    (ap₂ (λ x y. x || y) (and-swap (eqb a u) (eqb b v)) (and-swap (eqb a v) (eqb b u)) ∙ or-swap (eqb b v && eqb a u) (eqb b u && eqb a v))
 
 -- ---- the next place in a ring
 
@@ -78,9 +87,12 @@ pub sides-none-left : (a b : ℕ) (xs : List ℕ) → occurs a xs ≡ 0 → side
 unfolding sides
 sides-none-left a b xs z = sum-none _ (length xs) (λ i l. pair-not-left a b _ _ (occurs-none a xs i z l) (occurs-none a xs _ z (next-below (length xs) i l)))
 
-pub sides-none-right : (a b : ℕ) (xs : List ℕ) → occurs b xs ≡ 0 → sides a b xs ≡ 0
+pub sides-flip : (a b : ℕ) (xs : List ℕ) → sides a b xs ≡ sides b a xs
 unfolding sides
-sides-none-right a b xs z = sum-none _ (length xs) (λ i l. pair-not-right a b _ _ (occurs-none b xs i z l) (occurs-none b xs _ z (next-below (length xs) i l)))
+sides-flip a b xs = sum-cong _ _ (length xs) (λ i l. pair-flip a b _ _)
+
+pub sides-none-right : (a b : ℕ) (xs : List ℕ) → occurs b xs ≡ 0 → sides a b xs ≡ 0
+sides-none-right a b xs z = sides-flip a b xs ∙ sides-none-left b a xs z
 
 -- in a ring of three or more different nodes each pair stands at most once
 pub sides-once : (a b : ℕ) (xs : List ℕ) → ((c : ℕ) → occurs c xs ≤ 1) → 3 ≤ length xs → sides a b xs ≤ 1
@@ -148,7 +160,10 @@ unfolding sidesOfAll occursInAll
 sides-none-left-all a b [] z = refl
 sides-none-left-all a b (xs ∷ xss) z = omega (arith, sides-none-left a b xs (omega arith), sides-none-left-all a b xss (omega arith))
 
+pub sides-flip-all : (a b : ℕ) (xss : List (List ℕ)) → sidesOfAll a b xss ≡ sidesOfAll b a xss
+unfolding sidesOfAll
+sides-flip-all a b [] = refl
+sides-flip-all a b (xs ∷ xss) = ap₂ _+_ (sides-flip a b xs) (sides-flip-all a b xss)
+
 pub sides-none-right-all : (a b : ℕ) (xss : List (List ℕ)) → occursInAll b xss ≡ 0 → sidesOfAll a b xss ≡ 0
-unfolding sidesOfAll occursInAll
-sides-none-right-all a b [] z = refl
-sides-none-right-all a b (xs ∷ xss) z = omega (arith, sides-none-right a b xs (omega arith), sides-none-right-all a b xss (omega arith))
+sides-none-right-all a b xss z = sides-flip-all a b xss ∙ sides-none-left-all b a xss z

@@ -2,3 +2,8 @@ pub mod State
 pub mod Job
 pub mod Loop
 pub mod Sample
+pub mod Call
+pub mod Backwards
+pub mod Kept
+pub mod Placing
+pub mod Sampled

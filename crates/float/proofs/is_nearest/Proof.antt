@@ -33,7 +33,7 @@ add-u : tie.Need-add-u
 add-u c = omega (arith, low-low (c .before .before .before .before .args .g))
 
 add-if5 : tie.Need-add-if5
-add-if5 c = search needs
+add-if5 c = omega (arith, low-low (c .before .before .before .before .args .g))
 
 add-result : tie.Need-add-result
 add-result c = omega (arith, low-low (c .before .before .before .before .before .args .g))

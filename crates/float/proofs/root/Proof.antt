@@ -1,11 +1,11 @@
 -- `float::root` meets its contract: the pattern of an x above 0 gives its significand and exponent, and `root_bits` the bits of its root.
-use mathlib.Core.Path.{_≡_, sym, subst}
+use mathlib.Core.Path.{sym, subst}
 use native.Mathlib.Omega.{arith}
 use borrow.Author.Needs.{needs}
 use lib.Dec.{T}
 use lib.Ieee.{binary64, fits}
 use lib.Ieee.Positive.{positive}
-use Rattle.float.proofs.Patterns.{clear, finite-field, zeros, normal, subnormal, from-bits, no-nan-bits, is-positive, is-number, endless-root, zero-root, no-root}
+use Rattle.float.proofs.Patterns.{finite-field, zeros, normal, subnormal, from-bits, no-nan-bits, is-positive, is-number, endless-root, zero-root, no-root}
 use Rattle.float.proofs.root.Statement.{statement}
 use Rattle.float.proofs.root.Tie as tie
 

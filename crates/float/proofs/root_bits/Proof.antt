@@ -1,6 +1,6 @@
 -- `float::root_bits` meets its contract.
-use mathlib.Core.Path.{_≡_, sym, subst}
-use Prim.Native.Nat.{ℕ, _+_, _*_, _/_, _≤_, _<_, _^_}
+use mathlib.Core.Path.{sym, subst}
+use Prim.Native.Nat.{ℕ, _+_, _/_, _≤_, _<_, _^_}
 use native.Mathlib.Omega.{arith}
 use borrow.Author.Needs.{needs}
 use Rattle.float.specs.Root.{wholeRoot}

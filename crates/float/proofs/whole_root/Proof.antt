@@ -1,7 +1,6 @@
 -- `float::whole_root` meets its contract. The invariant is `Turned`, and the measure the turns left.
 use Prim.Native.Nat.{_-_}
 use mathlib.Core.Logic.{⊎-elim}
-use mathlib.Core.Path.{subst}
 use native.Mathlib.Omega.{arith}
 use Rattle.float.proofs.Digits.{Turned, start, short, turn-one, turn-zero, ended}
 use Rattle.float.proofs.whole_root.Statement.{statement}

@@ -1,0 +1,4 @@
+pub mod Calls
+pub mod Measures
+pub mod Outline
+pub mod Fronts

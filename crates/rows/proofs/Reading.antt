@@ -1,0 +1,101 @@
+-- What is read from buffers whose lengths and counts are within the limits.
+use mathlib.Core.Path.{_≡_, refl, _∙_, ap}
+use mathlib.Core.List.{List, [], _∷_}
+use Prim.Native.Nat.{ℕ, zero, suc, _*_, _≤_}
+use native.Mathlib.Omega.{arith}
+use lib.ListN.{length, take, drop}
+use lib.Seq.{length-take-le}
+use Rattle.geometry.specs.Domain.{pairs}
+use Rattle.sampling.specs.State.{Lent, joined, quadsOf, countAt, nodes, reading}
+use Rattle.rows.specs.Sound.{Sound, sizesOf}
+use Rattle.rows.proofs.Cutting.{joined-cut, length-cut}
+use Rattle.rows.proofs.Growing.{numbers}
+
+pub numbers-quadsOf : (n : ℕ) (xs : List ℕ) → n * 4 ≤ length xs → numbers (quadsOf n xs) ≡ take (n * 4) xs
+unfolding quadsOf joined
+numbers-quadsOf zero xs h = refl
+numbers-quadsOf (suc n) [] h = absurd (none n h)
+  where
+    none : (n : ℕ) → suc n * 4 ≤ 0 → ⊥
+    none n h = omega arith
+numbers-quadsOf (suc n) (a ∷ []) h = absurd (none n h)
+  where
+    none : (n : ℕ) → suc n * 4 ≤ 1 → ⊥
+    none n h = omega arith
+numbers-quadsOf (suc n) (a ∷ b ∷ []) h = absurd (none n h)
+  where
+    none : (n : ℕ) → suc n * 4 ≤ 2 → ⊥
+    none n h = omega arith
+numbers-quadsOf (suc n) (a ∷ b ∷ c ∷ []) h = absurd (none n h)
+  where
+    none : (n : ℕ) → suc n * 4 ≤ 3 → ⊥
+    none n h = omega arith
+numbers-quadsOf (suc n) (a ∷ b ∷ c ∷ d ∷ xs) h =
+    let e : suc n * 4 ≡ suc (suc (suc (suc (n * 4)))) = omega arith in
+    rw e (ap (λ t. a ∷ b ∷ c ∷ d ∷ t) (numbers-quadsOf n xs (four h)))
+  where
+    four : suc n * 4 ≤ suc (suc (suc (suc (length xs)))) → n * 4 ≤ length xs
+    four h = omega arith
+
+pub length-quadsOf : (n : ℕ) (xs : List ℕ) → length (quadsOf n xs) ≡ n
+unfolding quadsOf
+length-quadsOf zero xs = refl
+length-quadsOf (suc n) xs = ap suc (length-quadsOf n (drop 4 xs))
+
+pub record Counted (b : Lent) : Type 0 where
+  pub pointsLong : length (b .points) ≡ 8192
+  pub quadsLong : length (b .quads) ≡ 16384
+  pub frontNodesLong : length (b .frontNodes) ≡ 2048
+  pub frontLengthsLong : length (b .frontLengths) ≡ 16
+  pub countsLong : length (b .counts) ≡ 8
+  pub points : countAt b 0 ≤ 4096
+  pub quads : countAt b 1 ≤ 4096
+  pub fronts : countAt b 2 ≤ 16
+  pub frontNodes : pairs (sizesOf b) ≤ 2048
+
+pub sound-counted : (b : Lent) → Sound b → Counted b
+sound-counted b s = record {
+  pointsLong = s .pointsLong;
+  quadsLong = s .quadsLong;
+  frontNodesLong = s .frontNodesLong;
+  frontLengthsLong = s .frontLengthsLong;
+  countsLong = s .countsLong;
+  points = s .points;
+  quads = s .quads;
+  fronts = s .fronts;
+  frontNodes = s .frontNodes;
+}
+
+module _ (b : Lent) (c : Counted b) where
+  pub sizes-long : length (sizesOf b) ≡ countAt b 2
+  sizes-long = let h = c .frontLengthsLong in let g = c .fronts in length-take-le (countAt b 2) (b .frontLengths) (omega arith)
+
+  pub fits : pairs (sizesOf b) ≤ length (b .frontNodes)
+  fits = let h = c .frontNodesLong in let g = c .frontNodes in omega arith
+
+  pub points-long : length (take (countAt b 0 * 2) (b .points)) ≡ countAt b 0 * 2
+  points-long = let h = c .pointsLong in let g = c .points in length-take-le (countAt b 0 * 2) (b .points) (omega arith)
+
+  pub nodes-read : nodes (reading b) ≡ countAt b 0
+  unfolding reading
+  nodes-read = let e = points-long in omega arith
+
+  pub even-read : nodes (reading b) * 2 ≡ length (reading b .points)
+  unfolding reading
+  even-read = let e = points-long in omega arith
+
+  pub quads-read : length (reading b .quads) ≡ countAt b 1
+  unfolding reading
+  quads-read = length-quadsOf (countAt b 1) (b .quads)
+
+  pub fronts-read : length (reading b .fronts) ≡ countAt b 2
+  unfolding reading
+  fronts-read = length-cut (sizesOf b) (b .frontNodes) ∙ sizes-long
+
+  pub quad-nodes-read : numbers (reading b .quads) ≡ take (countAt b 1 * 4) (b .quads)
+  unfolding reading
+  quad-nodes-read = let h = c .quadsLong in let g = c .quads in numbers-quadsOf (countAt b 1) (b .quads) (omega arith)
+
+  pub front-nodes-read : joined (reading b .fronts) ≡ take (pairs (sizesOf b)) (b .frontNodes)
+  unfolding reading
+  front-nodes-read = joined-cut (sizesOf b) (b .frontNodes) fits

@@ -1,0 +1,121 @@
+-- Tests over a list of numbers, one place a turn: some number is out of bounds; some number stands twice.
+use mathlib.Core.Path.{_≡_, refl, sym, _∙_, ap}
+use mathlib.Core.Bool.{Bool, true, false, _||_, true≢false}
+use mathlib.Core.List.{List, [], _∷_, _++_}
+use Prim.Native.Nat.{ℕ, zero, suc, _+_, _<_, _≤_}
+use native.Mathlib.Nat.{not-suc-le-zero, le-of-suc-le-suc}
+use native.Mathlib.Numerals.{add-one}
+use native.Mathlib.Decide.{ℕ-discrete}
+use borrow.Author.Tests.{eq-eqb, ne-eqb, leb-false}
+use lib.Dec.{eqb, leb, ltb}
+use lib.ListN.{length, getD, take, drop, set, drop-of-length-le, take-append-drop, replicate, getD-replicate, length-replicate, length-set}
+use lib.Seq.{drop-cons, take-suc, take-all, getD-set-same, getD-set-other}
+use Rattle.rows.proofs.Basics.{or-true, or-no, or-assoc, or-false}
+use Rattle.paving.specs.Given.{someFrom, someBelow, member, repeated}
+
+-- ---- a number out of bounds: the rest of the list decides
+
+module _ (n : ℕ) where
+  pub from-here : (l : List ℕ) (i x : ℕ) → i < length l → x ≡ getD l i 0 → someFrom n (drop i l) ≡ (leb n x || someFrom n (drop (i + 1) l))
+  unfolding someFrom
+  from-here l i x h e = rw (add-one, drop-cons l i 0 h, e)
+
+  pub from-end : (l : List ℕ) (i : ℕ) → length l ≤ i → someFrom n (drop i l) ≡ false
+  unfolding someFrom
+  from-end l i h = rw (drop-of-length-le l h)
+
+  pub below-here : (l : List ℕ) (i x : ℕ) → i < length l → x ≡ getD l i 0 → someBelow n (drop i l) ≡ (ltb x n || someBelow n (drop (i + 1) l))
+  unfolding someBelow
+  below-here l i x h e = rw (add-one, drop-cons l i 0 h, e)
+
+  pub below-end : (l : List ℕ) (i : ℕ) → length l ≤ i → someBelow n (drop i l) ≡ false
+  unfolding someBelow
+  below-end l i h = rw (drop-of-length-le l h)
+
+  -- where no number is out of bounds each is below n
+  pub all-below : (l : List ℕ) → someFrom n l ≡ false → (i : ℕ) → i < length l → getD l i 0 < n
+  unfolding someFrom
+  all-below [] h i g = absurd (not-suc-le-zero g)
+  all-below (x ∷ l) h zero g = leb-false n x (or-false (leb n x) (someFrom n l) h .0)
+  all-below (x ∷ l) h (suc i) g = all-below l (or-false (leb n x) (someFrom n l) h .1) i (le-of-suc-le-suc g)
+
+  pub from-both : (xs ys : List ℕ) → someFrom n (xs ++ ys) ≡ (someFrom n xs || someFrom n ys)
+  unfolding someFrom
+  from-both [] ys = refl
+  from-both (x ∷ xs) ys = ap (λ b. leb n x || b) (from-both xs ys) ∙ or-assoc (leb n x) (someFrom n xs) (someFrom n ys)
+
+-- ---- a number that stands twice
+
+eqb-sym : (a b : ℕ) → eqb a b ≡ eqb b a
+eqb-sym a b = go (ℕ-discrete a b)
+  where
+    go : Dec (a ≡ b) → eqb a b ≡ eqb b a
+    go (yes e) = rw (eq-eqb a b e, eq-eqb b a (sym e))
+    go (no f) = rw (ne-eqb a b f, ne-eqb b a (λ e. f (sym e)))
+
+pub member-more : (a x : ℕ) (xs : List ℕ) → member a (xs ++ (x ∷ [])) ≡ (member a xs || eqb a x)
+unfolding member
+member-more a x [] = or-no (eqb a x)
+member-more a x (y ∷ xs) = ap (λ b. eqb a y || b) (member-more a x xs) ∙ or-assoc (eqb a y) (member a xs) (eqb a x)
+
+repeated-more : (x : ℕ) (xs : List ℕ) → repeated (xs ++ (x ∷ [])) ≡ (repeated xs || member x xs)
+unfolding repeated member
+repeated-more x [] = refl
+repeated-more x (y ∷ xs) = rw (member-more y x xs, repeated-more x xs, eqb-sym x y) (four (member y xs) (eqb y x) (repeated xs) (member x xs))
+  where
+    four : (a b c d : Bool) → ((a || b) || (c || d)) ≡ ((a || c) || (b || d))
+    four true b c d = refl
+    four false true c d = sym (or-true c)
+    four false false c d = refl
+
+or-mono : (a b a′ b′ : Bool) → (a ≡ true → a′ ≡ true) → (b ≡ true → b′ ≡ true) → (a || b) ≡ true → (a′ || b′) ≡ true
+or-mono true b a′ b′ f g h = rw (f refl)
+or-mono false true a′ b′ f g h = rw (g refl) (or-true a′)
+or-mono false false a′ b′ f g h = absurd (true≢false (sym h))
+
+member-stays : (a : ℕ) (xs ys : List ℕ) → member a xs ≡ true → member a (xs ++ ys) ≡ true
+unfolding member
+member-stays a [] ys h = absurd (true≢false (sym h))
+member-stays a (x ∷ xs) ys h = or-mono (eqb a x) (member a xs) (eqb a x) (member a (xs ++ ys)) (λ e. e) (member-stays a xs ys) h
+
+repeated-stays : (xs ys : List ℕ) → repeated xs ≡ true → repeated (xs ++ ys) ≡ true
+unfolding repeated
+repeated-stays [] ys h = absurd (true≢false (sym h))
+repeated-stays (x ∷ xs) ys h = or-mono (member x xs) (repeated xs) (member x (xs ++ ys)) (repeated (xs ++ ys)) (member-stays x xs ys) (repeated-stays xs ys) h
+
+-- the marks after i numbers
+pub record Marked (l : List ℕ) (i : ℕ) (met : List Bool) : Type 0 where
+  pub long : length met ≡ 4096
+  pub marks : (k : ℕ) → k < 4096 → getD met k false ≡ member k (take i l)
+  pub single : repeated (take i l) ≡ false
+
+pub none-marked : (l : List ℕ) → Marked l 0 (replicate 4096 false)
+unfolding member repeated
+none-marked l = record { long = length-replicate 4096 false; marks = λ k h. getD-replicate 4096 k false false h; single = refl }
+
+module _ (l : List ℕ) (i x : ℕ) (met : List Bool) (m : Marked l i met) (h : i < length l) (e : x ≡ getD l i 0) (below : x < 4096) where
+  next-taken : take (i + 1) l ≡ take i l ++ (x ∷ [])
+  next-taken = rw (add-one, e) (take-suc l i 0 h)
+
+  -- a number that is marked stands twice
+  pub met-before : getD met x false ≡ true → true ≡ repeated l
+  met-before g =
+      let t : repeated (take i l ++ (x ∷ [])) ≡ true = repeated-more x (take i l) ∙ rw (← m .marks x below, g) (or-true (repeated (take i l))) in
+      sym (rw (next-taken′, take-append-drop) at (repeated-stays (take i l ++ (x ∷ [])) (drop (i + 1) l) t))
+    where
+      next-taken′ : take i l ++ (x ∷ []) ≡ take (i + 1) l
+      next-taken′ = sym next-taken
+
+  pub mark : getD met x false ≡ false → Marked l (i + 1) (set met x true)
+  mark g = record {
+    long = length-set met x true ∙ m .long;
+    marks = λ k b. rw next-taken (marked k b (ℕ-discrete k x));
+    single = rw (next-taken, repeated-more x (take i l), m .single, ← m .marks x below, g);
+  }
+    where
+      marked : (k : ℕ) → k < 4096 → Dec (k ≡ x) → getD (set met x true) k false ≡ member k (take i l ++ (x ∷ []))
+      marked k b (yes f) = rw (f, getD-set-same met x true false (rw (m .long) below), member-more x x (take i l), eq-eqb x x refl) (sym (or-true (member x (take i l))))
+      marked k b (no f) = getD-set-other met x k true false f ∙ m .marks k b ∙ sym (member-more k x (take i l) ∙ rw (ne-eqb k x f) (or-no (member k (take i l))))
+
+pub all-marked : (l : List ℕ) (i : ℕ) (met : List Bool) → Marked l i met → length l ≤ i → false ≡ repeated l
+all-marked l i met m h = sym (rw (take-all i l h) at (m .single))

@@ -1,0 +1,60 @@
+-- `rows::given::some_below` meets its contract. The invariant: the rest of the list decides. The measure is its length.
+use mathlib.Core.Path.{_≡_, refl, sym, _∙_}
+use Prim.Native.Nat.{_-_, _≤_}
+use native.Mathlib.Omega.{arith}
+use borrow.Author.Needs.{needs}
+use borrow.Author.Tests.{lt-ltb, le-ltb}
+use lib.ListN.{length, drop}
+use Rattle.paving.specs.Given.{someBelow}
+use Rattle.rows.proofs.Repeating.{below-here, below-end}
+use Rattle.rows.proofs.given.some_below.Statement.{statement}
+use Rattle.rows.proofs.given.some_below.Tie as tie
+
+abbrev Inv-loop : tie.InvT-loop
+Inv-loop n sizes i₀ i = (i ≤ length sizes) × (someBelow n sizes ≡ someBelow n (drop i sizes))
+
+abbrev μ-loop : tie.MeasureT-loop
+μ-loop n sizes i₀ i = length sizes - i
+
+loop-holds : tie.Need-loop-holds Inv-loop μ-loop
+loop-holds c = (omega arith, refl)
+
+mul-wide : tie.Need-mul-wide Inv-loop μ-loop
+mul-wide c = omega arith
+
+shared-slice-read-wide : tie.Need-shared-slice-read-wide Inv-loop μ-loop
+shared-slice-read-wide c = search needs
+
+wide-requires : tie.Need-wide-requires Inv-loop μ-loop
+wide-requires c κs = search needs
+
+returns : tie.Need-returns Inv-loop μ-loop
+returns c = sym (c .before .before .before .before .loop .inv .1 ∙ below-here (c .before .before .before .before .before .before .args .n) (c .before .before .before .before .before .before .args .sizes .now) (c .before .before .before .before .loop .i) _ (c .before .before .before .loop-test .taken) (c .before .wide .ensures) ∙ rw (lt-ltb _ _ (c .if1 .taken)))
+
+add-i : tie.Need-add-i Inv-loop μ-loop
+add-i c = omega arith
+
+loop-less : tie.Need-loop-less Inv-loop μ-loop
+loop-less c = omega arith
+
+loop-again : tie.Need-loop-again Inv-loop μ-loop
+loop-again c = (omega arith, c .before .before .before .before .loop .inv .1 ∙ below-here (c .before .before .before .before .before .before .args .n) (c .before .before .before .before .before .before .args .sizes .now) (c .before .before .before .before .loop .i) _ (c .before .before .before .loop-test .taken) (c .before .wide .ensures) ∙ rw (le-ltb _ _ (c .if1 .left)))
+
+returns-2 : tie.Need-returns-2 Inv-loop μ-loop
+returns-2 c = sym (c .before .loop .inv .1 ∙ below-end (c .before .before .before .args .n) (c .before .before .before .args .sizes .now) (c .before .loop .i) (c .loop-test .left))
+
+pub some-below-spec : {M : Type 1} → statement M
+some-below-spec =
+    tie.close
+    (tie.spec
+    Inv-loop
+    μ-loop
+    loop-holds
+    mul-wide
+    shared-slice-read-wide
+    wide-requires
+    returns
+    add-i
+    loop-less
+    loop-again
+    returns-2)

@@ -1,0 +1,224 @@
+-- The loops in turn: what has been sampled and written when k loops are done, and one loop more.
+use mathlib.Core.Path.{_≡_, refl, sym, ap, subst, _∙_}
+use mathlib.Core.Bool.{Bool, true, false, cond}
+use mathlib.Core.List.{List, [], _∷_, _++_, map, append-nil, append-assoc}
+use Prim.Native.Nat.{ℕ, zero, suc, _+_, _-_, _*_, _/_, _≤_, _<_}
+use native.Mathlib.Nat.{add-zero, zero-add, le-of-eq, le-trans}
+use native.Mathlib.Numerals.{add-one}
+use native.Mathlib.Omega.{arith}
+use lib.ListN.{length, getD, take, drop, set, length-append, length-drop, drop-of-length-le, length-map}
+use lib.Dec.{eqb}
+use lib.Seq.{sets, drop-cons, drop-drop, take-all}
+use lib.Ieee.{Float}
+use borrow.Author.Tests.{eq-eqb, ne-eqb}
+use Rattle.geometry.specs.Rings.{Ring, ringOf}
+use Rattle.geometry.specs.Domain.{rings, pairs}
+use Rattle.sampling.specs.declared.Options.{Options}
+use Rattle.sampling.specs.State.{State, joined}
+use Rattle.sampling.specs.Job.{Job, Outcome, refused, gives}
+use Rattle.sampling.specs.Loop.{loopRing, planned, placed, sampleLoop}
+use Rattle.sampling.specs.Sample.{numbered, withLoop, sampleFrom, sampled}
+use Rattle.sampling.specs.Call.{job}
+use Rattle.sampling.specs.Placing.{Written, outcome}
+use Rattle.sampling.specs.Sampled.{ofLoops, Sampled}
+use Rattle.sampling.proofs.Stores.{sets-append, store-behind}
+
+-- ---- node numbers
+
+pub numbered-more : (first i : ℕ) → numbered first (i + 1) ≡ numbered first i ++ ((first + i) ∷ [])
+unfolding numbered
+numbered-more first i = rw add-one (go first i)
+  where
+    go : (first i : ℕ) → numbered first (suc i) ≡ numbered first i ++ ((first + i) ∷ [])
+    go first zero = ap (λ (n : ℕ). n ∷ []) (sym (add-zero first))
+    go first (suc i) = ap (λ (t : List ℕ). first ∷ t) (go (suc first) i ∙ ap (λ (n : ℕ). numbered (suc first) i ++ (n ∷ [])) (move first i))
+      where
+        move : (a b : ℕ) → suc a + b ≡ a + suc b
+        move a b = omega arith
+
+pub length-numbered : (first n : ℕ) → length (numbered first n) ≡ n
+unfolding numbered
+length-numbered first zero = refl
+length-numbered first (suc n) = ap suc (length-numbered (suc first) n)
+
+-- ---- fronts
+
+joined-more : (fs : List (List ℕ)) (f : List ℕ) → joined (fs ++ (f ∷ [])) ≡ joined fs ++ f
+unfolding joined
+joined-more [] f = append-nil f
+joined-more (g ∷ fs) f = ap (λ (t : List ℕ). g ++ t) (joined-more fs f) ∙ sym (append-assoc g (joined fs) f)
+
+lengths-more : (fs : List (List ℕ)) (f : List ℕ) → map length (fs ++ (f ∷ [])) ≡ map length fs ++ (length f ∷ [])
+lengths-more [] f = refl
+lengths-more (g ∷ fs) f = ap (λ (t : List ℕ). length g ∷ t) (lengths-more fs f)
+
+-- ---- the slice of the coordinates that are left
+
+pub rest-whole : {A : Type 0} (l : List A) (n : ℕ) → take (length l - n) (drop n l) ≡ drop n l
+rest-whole l n = take-all (length l - n) (drop n l) (le-of-eq (length-drop n l))
+
+-- ---- one loop of those to come
+
+module _ (h : Float) (o : Options) (before : ℕ) (ccw : Bool) (s : State) (r : Ring) (rs : List Ring) where
+  pub from-refused : (number : ℕ) → sampleLoop h o before ccw r ≡ refused number → sampleFrom h o before ccw s (r ∷ rs) ≡ refused number
+  unfolding sampleFrom
+  from-refused number e =
+      subst
+      (λ (x : Outcome (List Float)).
+      _≡_ {A = Outcome State} (elim x as (λ _. Outcome State) [ refused n ↦ refused n | gives out ↦ sampleFrom h o (before + planned h o (loopRing ccw r)) false (withLoop s out) rs ]) (refused number))
+      (sym e) refl
+
+  pub from-given : (out : List Float) → sampleLoop h o before ccw r ≡ gives out
+      → sampleFrom h o before ccw s (r ∷ rs) ≡ sampleFrom h o (before + planned h o (loopRing ccw r)) false (withLoop s out) rs
+  unfolding sampleFrom
+  from-given given e =
+      subst
+      (λ (x : Outcome (List Float)). elim x as (λ _. Outcome State) [ refused n ↦ refused n | gives out ↦ sampleFrom h o (before + planned h o (loopRing ccw r)) false (withLoop s out) rs ]
+      ≡ sampleFrom h o (before + planned h o (loopRing ccw r)) false (withLoop s given) rs)
+      (sym e) refl
+
+module _ (coords : List Float) (loops : List ℕ) (h : Float) (o : Options) (p₀ : List Float) (n₀ l₀ : List ℕ) where
+  pub record Progress (first before nodes k : ℕ) (p : List Float) (n l : List ℕ) : Type 0 where
+    pub points : List Float
+    pub fronts : List (List ℕ)
+    pub turn : k ≤ length loops
+    pub to-come : sampleFrom h o before (eqb k 0) (ofLoops points fronts) (rings (drop first coords) (drop k loops)) ≡ sampled (job coords loops h o)
+    pub left : first + pairs (drop k loops) * 2 ≡ length coords
+    pub nodesIs : nodes * 2 ≡ length points
+    pub fewer : nodes ≤ before
+    pub within : before ≤ 2048
+    pub joinedIs : length (joined fronts) ≡ nodes
+    pub frontsIs : length fronts ≡ k
+    pub pointsAre : p ≡ sets p₀ 0 points
+    pub nodesAre : n ≡ sets n₀ 0 (joined fronts)
+    pub lengthsAre : l ≡ sets l₀ 0 (map length fronts)
+
+  pub at-first : pairs loops * 2 ≡ length coords → Progress 0 0 0 0 p₀ n₀ l₀
+  unfolding sampled joined
+  at-first e = record {
+    points = [];
+    fronts = [];
+    turn = omega arith;
+    to-come = refl;
+    left = zero-add (pairs loops * 2) ∙ e;
+    nodesIs = refl;
+    fewer = omega arith;
+    within = omega arith;
+    joinedIs = refl;
+    frontsIs = refl;
+    pointsAre = refl;
+    nodesAre = refl;
+    lengthsAre = refl;
+  }
+
+module _ {coords : List Float} {loops : List ℕ} {h : Float} {o : Options} {p₀ : List Float} {n₀ l₀ : List ℕ} {first before nodes k : ℕ} {p : List Float} {n l : List ℕ}
+    (sofar : Progress coords loops h o p₀ n₀ l₀ first before nodes k p n l) where
+  pub at-last : length loops ≤ k → Sampled (job coords loops h o) nodes p₀ p n₀ n l₀ l
+  unfolding sampleFrom rings
+  at-last done = record {
+    points = sofar .points;
+    fronts = sofar .fronts;
+    made = sym (rw (drop-of-length-le loops done) at (sofar .to-come));
+    nodesIs = sofar .nodesIs;
+    few = le-trans (sofar .fewer) (sofar .within);
+    joinedIs = sofar .joinedIs;
+    frontsIs = sofar .frontsIs ∙ same k (length loops) (sofar .turn) done;
+    pointsAre = sofar .pointsAre;
+    nodesAre = sofar .nodesAre;
+    lengthsAre = sofar .lengthsAre;
+  }
+    where
+      same : (k n : ℕ) → k ≤ n → n ≤ k → k ≡ n
+      same k n a b = omega arith
+
+  module _ {m : ℕ} (hm : m ≡ getD loops k 0) (more : k < length loops) where
+    abbrev given : Ring
+    given = ringOf (drop first coords) m
+
+    -- the loop to come, and those behind it
+    next-pairs : pairs (drop k loops) ≡ m + pairs (drop (k + 1) loops)
+    unfolding pairs
+    next-pairs = rw (add-one, drop-cons loops k 0 more, hm)
+
+    pub room-left : first + m * 2 + pairs (drop (k + 1) loops) * 2 ≡ length coords
+    room-left = sum first m (pairs (drop (k + 1) loops)) ∙ ap (λ (x : ℕ). first + x * 2) (sym next-pairs) ∙ sofar .left
+      where
+        sum : (a b c : ℕ) → a + b * 2 + c * 2 ≡ a + (b + c) * 2
+        sum a b c = omega arith
+
+    next-rings : rings (drop first coords) (drop k loops) ≡ given ∷ rings (drop (first + m * 2) coords) (drop (k + 1) loops)
+    unfolding rings
+    next-rings = rw (add-one, drop-cons loops k 0 more, ← hm, drop-drop (m * 2) first coords)
+
+    abbrev others : List Ring
+    others = rings (drop (first + m * 2) coords) (drop (k + 1) loops)
+
+    module _ (number : ℕ) (out : List Float) (made : sampleLoop h o before (eqb k 0) given ≡ outcome number out) where
+      pub loop-refused : (number ≡ 0 → ⊥) → sampled (job coords loops h o) ≡ refused number
+      loop-refused g =
+          sym (sofar .to-come)
+          ∙ ap (λ (rs : List Ring). sampleFrom h o before (eqb k 0) (ofLoops (sofar .points) (sofar .fronts)) rs) next-rings
+          ∙ from-refused h o before (eqb k 0) (ofLoops (sofar .points) (sofar .fronts)) given others number (made ∙ rw (ne-eqb number 0 g))
+
+      module _ (g : number ≡ 0) {before' placed' : ℕ} {p' : List Float} {n' l' : List ℕ} (w : Written h o (loopRing (eqb k 0) given) before nodes before' placed' p p')
+          (same : out ≡ placed h o (loopRing (eqb k 0) given) (loopRing (eqb k 0) given .size)) (hn : n' ≡ sets n nodes (numbered nodes placed')) (hl : l' ≡ set l k placed') where
+        abbrev front : List ℕ
+        front = numbered nodes placed'
+
+        abbrev now : State
+        now = ofLoops (sofar .points) (sofar .fronts)
+
+        on : sampleFrom h o (before + before') false (withLoop now out) others ≡ sampled (job coords loops h o)
+        on =
+            ap (λ (b : ℕ). sampleFrom h o (before + b) false (withLoop now out) others) (w .plannedIs)
+            ∙ sym (ap (λ (rs : List Ring). sampleFrom h o before (eqb k 0) now rs) next-rings
+            ∙ from-given h o before (eqb k 0) now given others out (made ∙ rw (eq-eqb number 0 g)))
+            ∙ sofar .to-come
+
+        with-loop : withLoop now out ≡ ofLoops (sofar .points ++ out) (sofar .fronts ++ (front ∷ []))
+        unfolding withLoop
+        with-loop =
+            let a : length (sofar .points) / 2 ≡ nodes = half (length (sofar .points)) nodes (sofar .nodesIs) in
+            let b : length out / 2 ≡ placed' = half (length out) placed' (w .placedIs ∙ ap length (sym same)) in
+            rw (a, b)
+          where
+            half : (x y : ℕ) → y * 2 ≡ x → x / 2 ≡ y
+            half x y e = omega arith
+
+        pub one-more : Progress coords loops h o p₀ n₀ l₀ (first + m * 2) (before + before') (nodes + placed') (k + 1) p' n' l'
+        one-more = record {
+          points = sofar .points ++ out;
+          fronts = sofar .fronts ++ (front ∷ []);
+          turn = more-turns k (length loops) more;
+          to-come = rw (ne-eqb (k + 1) 0 (not-first k), ← with-loop) on;
+          left = room-left;
+          nodesIs = rw (length-append, same, ← (w .placedIs)) (both nodes placed' (length (sofar .points)) (sofar .nodesIs));
+          fewer = sum-le nodes placed' before before' (sofar .fewer) (w .fewer);
+          within = w .within;
+          joinedIs = ap length (joined-more (sofar .fronts) front) ∙ length-append (joined (sofar .fronts)) front ∙ rw (sofar .joinedIs, length-numbered nodes placed');
+          frontsIs = length-append (sofar .fronts) (front ∷ []) ∙ ap (λ (x : ℕ). x + 1) (sofar .frontsIs);
+          pointsAre = w .points ∙ rw (← same, sofar .pointsAre, sofar .nodesIs ∙ sym (zero-add (length (sofar .points)))) (sym (sets-append (sofar .points) out p₀ 0));
+          nodesAre =
+              hn
+              ∙ ap (λ (x : List ℕ). sets x nodes front) (sofar .nodesAre)
+              ∙ ap (λ (i : ℕ). sets (sets n₀ 0 (joined (sofar .fronts))) i front) (sym (zero-add (length (joined (sofar .fronts))) ∙ sofar .joinedIs))
+              ∙ sym (sets-append (joined (sofar .fronts)) front n₀ 0)
+              ∙ ap (λ (x : List ℕ). sets n₀ 0 x) (sym (joined-more (sofar .fronts) front));
+          lengthsAre =
+              hl
+              ∙ store-behind l₀ (map length (sofar .fronts)) l 0 k placed' (sofar .lengthsAre) (sym (zero-add (length (map length (sofar .fronts))) ∙ length-map (sofar .fronts) length ∙ sofar .frontsIs))
+              ∙ ap (λ (x : ℕ). sets l₀ 0 (map length (sofar .fronts) ++ (x ∷ []))) (sym (length-numbered nodes placed'))
+              ∙ ap (λ (x : List ℕ). sets l₀ 0 x) (sym (lengths-more (sofar .fronts) front));
+        }
+          where
+            more-turns : (k n : ℕ) → k < n → k + 1 ≤ n
+            more-turns k n h = omega arith
+
+            not-first : (k : ℕ) → k + 1 ≡ 0 → ⊥
+            not-first k e = omega arith
+
+            both : (a b c : ℕ) → a * 2 ≡ c → (a + b) * 2 ≡ c + b * 2
+            both a b c e = omega arith
+
+            sum-le : (a b c d : ℕ) → a ≤ c → b ≤ d → a + b ≤ c + d
+            sum-le a b c d e f = omega arith

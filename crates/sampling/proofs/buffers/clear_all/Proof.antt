@@ -1,0 +1,53 @@
+-- `sampling::buffers::clear_all` meets its contract: what each call ensures, put into the one equation.
+use borrow.Author.Needs.{needs}
+use Rattle.sampling.proofs.buffers.clear_all.Statement.{statement}
+use Rattle.sampling.proofs.buffers.clear_all.Tie as tie
+
+clear-floats-requires : tie.Need-clear-floats-requires
+clear-floats-requires c κs = search needs
+
+clear-nodes-requires : tie.Need-clear-nodes-requires
+clear-nodes-requires c κs = search needs
+
+clear-nodes-requires-2 : tie.Need-clear-nodes-requires-2
+clear-nodes-requires-2 c κs = search needs
+
+clear-nodes-requires-3 : tie.Need-clear-nodes-requires-3
+clear-nodes-requires-3 c κs = search needs
+
+clear-counts-requires : tie.Need-clear-counts-requires
+clear-counts-requires c κs = search needs
+
+same-length : tie.Need-same-length
+same-length c = search needs
+
+same-length-2 : tie.Need-same-length-2
+same-length-2 c = search needs
+
+same-length-3 : tie.Need-same-length-3
+same-length-3 c = search needs
+
+same-length-4 : tie.Need-same-length-4
+same-length-4 c = search needs
+
+same-length-5 : tie.Need-same-length-5
+same-length-5 c = search needs
+
+returns : tie.Need-returns
+returns c = rw (c .before .before .before .before .before .before .before .before .before .before .before .before .before .before .before .before .before .before .clear-floats .ensures, c .before .before .before .before .before .before .before .before .before .before .before .before .before .before .clear-nodes .ensures, c .before .before .before .before .before .before .before .before .before .before .clear-nodes2 .ensures, c .before .before .before .before .before .before .clear-nodes3 .ensures, c .before .before .clear-counts .ensures)
+
+pub clear-all-spec : {M : Type 1} → statement M
+clear-all-spec =
+    tie.close
+    (tie.spec
+    clear-floats-requires
+    clear-nodes-requires
+    clear-nodes-requires-2
+    clear-nodes-requires-3
+    clear-counts-requires
+    same-length
+    same-length-2
+    same-length-3
+    same-length-4
+    same-length-5
+    returns)

@@ -1,0 +1,93 @@
+-- `sampling::input::input_number` meets its contract: its tests are the definition's, in its order.
+use mathlib.Core.Path.{_∙_, sym}
+use native.Mathlib.Omega.{arith}
+use native.Mathlib.Nat.{le-of-eq}
+use borrow.Author.Tests.{lt-ltb, le-ltb}
+use Rattle.sampling.specs.Job.{inputNumber, firstOf}
+use Rattle.sampling.proofs.Literals.{zero-is, million-is}
+use Rattle.sampling.proofs.Shape.{shaped}
+use borrow.Author.Needs.{needs}
+use Rattle.sampling.proofs.input.input_number.Statement.{statement}
+use Rattle.sampling.proofs.input.input_number.Tie as tie
+
+wrong-shape-requires : tie.Need-wrong-shape-requires
+wrong-shape-requires c κs = search needs
+
+returns : tie.Need-returns
+unfolding inputNumber firstOf
+returns c =
+    let start = c .before .before .before .before in
+    rw (sym (c .before .wrong-shape .ensures (start .args .h) (start .args .options)) ∙ c .if1 .taken)
+
+wrong-size-requires : tie.Need-wrong-size-requires
+wrong-size-requires c κs = search needs
+
+returns-2 : tie.Need-returns-2
+unfolding inputNumber firstOf
+returns-2 c =
+    let start = c .before .before .before .before .before .before in
+    rw (sym (c .before .before .before .wrong-shape .ensures (start .args .h) (start .args .options)) ∙ c .before .before .if1 .left, sym (c .before .wrong-size .ensures) ∙ c .if2 .taken)
+
+wrong-options-requires : tie.Need-wrong-options-requires
+wrong-options-requires c κs = search needs
+
+returns-3 : tie.Need-returns-3
+unfolding inputNumber firstOf
+returns-3 c =
+    let start = c .before .before .before .before .before .before .before .before in
+    rw (sym (c .before .before .before .before .before .wrong-shape .ensures (start .args .h) (start .args .options)) ∙ c .before .before .before .before .if1 .left, sym (c .before .before .before .wrong-size .ensures) ∙ c .before .before .if2 .left, sym (c .before .wrong-options .ensures) ∙ c .if3 .taken)
+
+shared-slice-read-if4 : tie.Need-shared-slice-read-if4
+shared-slice-read-if4 c =
+    let start = c .before .before .before .before .before .before .before .before .before in
+    shaped _ _ (sym (c .before .before .before .before .before .before .wrong-shape .ensures (start .args .h) (start .args .options)) ∙ c .before .before .before .before .before .if1 .left) .some
+
+returns-4 : tie.Need-returns-4
+unfolding inputNumber firstOf
+returns-4 c =
+    let start = c .before .before .before .before .before .before .before .before .before .before in
+    rw (sym (c .before .before .before .before .before .before .before .wrong-shape .ensures (start .args .h) (start .args .options)) ∙ c .before .before .before .before .before .before .if1 .left, sym (c .before .before .before .before .before .wrong-size .ensures) ∙ c .before .before .before .before .if2 .left, sym (c .before .before .before .wrong-options .ensures) ∙ c .before .before .if3 .left, lt-ltb _ _ (c .if4 .taken))
+
+wrong-coordinate-requires : tie.Need-wrong-coordinate-requires
+wrong-coordinate-requires c κs = search needs
+
+returns-5 : tie.Need-returns-5
+unfolding inputNumber firstOf
+returns-5 c =
+    let start = c .before .before .before .before .before .before .before .before .before .before .before .before in
+    rw (sym (c .before .before .before .before .before .before .before .before .before .wrong-shape .ensures (start .args .h) (start .args .options)) ∙ c .before .before .before .before .before .before .before .before .if1 .left, sym (c .before .before .before .before .before .before .before .wrong-size .ensures) ∙ c .before .before .before .before .before .before .if2 .left, sym (c .before .before .before .before .before .wrong-options .ensures) ∙ c .before .before .before .before .if3 .left, le-ltb _ _ (c .before .before .if4 .left), rw million-is at (sym (c .before .wrong-coordinate .ensures) ∙ c .if5 .taken))
+
+domain-area-requires : tie.Need-domain-area-requires
+domain-area-requires c κs =
+    let start = c .before .before .before .before .before .before .before .before .before .before .before .before in
+    le-of-eq (shaped _ _ (sym (c .before .before .before .before .before .before .before .before .before .wrong-shape .ensures (start .args .h) (start .args .options)) ∙ c .before .before .before .before .before .before .before .before .if1 .left) .even)
+
+returns-6 : tie.Need-returns-6
+unfolding inputNumber firstOf
+returns-6 c =
+    let start = c .before .before .before .before .before .before .before .before .before .before .before .before .before .before in
+    rw (sym (c .before .before .before .before .before .before .before .before .before .before .before .wrong-shape .ensures (start .args .h) (start .args .options)) ∙ c .before .before .before .before .before .before .before .before .before .before .if1 .left, sym (c .before .before .before .before .before .before .before .before .before .wrong-size .ensures) ∙ c .before .before .before .before .before .before .before .before .if2 .left, sym (c .before .before .before .before .before .before .before .wrong-options .ensures) ∙ c .before .before .before .before .before .before .if3 .left, le-ltb _ _ (c .before .before .before .before .if4 .left), rw million-is at (sym (c .before .before .before .wrong-coordinate .ensures) ∙ c .before .before .if5 .left), rw (zero-is, c .before .domain-area .ensures) at (c .if6 .taken))
+
+returns-7 : tie.Need-returns-7
+unfolding inputNumber firstOf
+returns-7 c =
+    let start = c .before .before .before .before .before .before .before .before .before .before .before .before .before .before in
+    rw (sym (c .before .before .before .before .before .before .before .before .before .before .before .wrong-shape .ensures (start .args .h) (start .args .options)) ∙ c .before .before .before .before .before .before .before .before .before .before .if1 .left, sym (c .before .before .before .before .before .before .before .before .before .wrong-size .ensures) ∙ c .before .before .before .before .before .before .before .before .if2 .left, sym (c .before .before .before .before .before .before .before .wrong-options .ensures) ∙ c .before .before .before .before .before .before .if3 .left, le-ltb _ _ (c .before .before .before .before .if4 .left), rw million-is at (sym (c .before .before .before .wrong-coordinate .ensures) ∙ c .before .before .if5 .left), rw (zero-is, c .before .domain-area .ensures) at (c .if6 .left))
+
+pub input-number-spec : {M : Type 1} → statement M
+input-number-spec =
+    tie.close
+    (tie.spec
+    wrong-shape-requires
+    returns
+    wrong-size-requires
+    returns-2
+    wrong-options-requires
+    returns-3
+    shared-slice-read-if4
+    returns-4
+    wrong-coordinate-requires
+    returns-5
+    domain-area-requires
+    returns-6
+    returns-7)

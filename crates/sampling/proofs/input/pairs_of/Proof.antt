@@ -1,0 +1,60 @@
+-- `sampling::input::pairs_of` meets its contract. The invariant: the sum and what the loops from the ith on have are what all have.
+use mathlib.Core.Path.{_≡_, _∙_, sym}
+use Prim.Native.Nat.{_≤_, _-_, _+_, _*_}
+use native.Mathlib.Nat.{zero-add, add-zero}
+use native.Mathlib.Omega.{arith}
+use lib.ListN.{length, drop}
+use borrow.Author.Needs.{needs, scaled-fits}
+use Rattle.geometry.specs.Domain.{pairs}
+use Rattle.sampling.proofs.Walk.{pairs-step, pairs-end}
+use Rattle.sampling.proofs.input.pairs_of.Statement.{statement}
+use Rattle.sampling.proofs.input.pairs_of.Tie as tie
+
+abbrev Inv-loop : tie.InvT-loop
+Inv-loop loop-lengths sum₀ i₀ sum i = (i ≤ length loop-lengths) × (sum + pairs (drop i loop-lengths) ≡ pairs loop-lengths) × (sum ≤ i * 65535)
+
+abbrev μ-loop : tie.MeasureT-loop
+μ-loop loop-lengths sum₀ i₀ sum i = length loop-lengths - i
+
+loop-holds : tie.Need-loop-holds Inv-loop μ-loop
+loop-holds c = (omega arith, zero-add _, omega arith)
+
+mul-wide : tie.Need-mul-wide Inv-loop μ-loop
+mul-wide c = scaled-fits (c .before .loop .i) (length (c .before .before .before .args .loop-lengths .now)) 2 (omega arith) (c .before .before .before .good .0 .1)
+
+shared-slice-read-wide : tie.Need-shared-slice-read-wide Inv-loop μ-loop
+shared-slice-read-wide c = omega arith
+
+wide-requires : tie.Need-wide-requires Inv-loop μ-loop
+wide-requires c κs = search needs
+
+add-sum : tie.Need-add-sum Inv-loop μ-loop
+add-sum c = omega arith
+
+add-i : tie.Need-add-i Inv-loop μ-loop
+add-i c = omega arith
+
+loop-less : tie.Need-loop-less Inv-loop μ-loop
+loop-less c = omega arith
+
+loop-again : tie.Need-loop-again Inv-loop μ-loop
+loop-again c = (omega arith, pairs-step _ _ _ _ (c .before .before .before .loop .inv .1) (c .wide .ensures .0) (c .before .before .loop-test .taken), omega arith)
+
+returns : tie.Need-returns Inv-loop μ-loop
+returns c = sym (add-zero _) ∙ pairs-end _ _ _ (c .before .loop .inv .1) (c .loop-test .left)
+
+pub pairs-of-spec : {M : Type 1} → statement M
+pairs-of-spec =
+    tie.close
+    (tie.spec
+    Inv-loop
+    μ-loop
+    loop-holds
+    mul-wide
+    shared-slice-read-wide
+    wide-requires
+    add-sum
+    add-i
+    loop-less
+    loop-again
+    returns)

@@ -1,0 +1,70 @@
+-- `sampling::keep::keep` meets its contract. The invariant: the buffer begins with the points that the definition keeps of the first k.
+use Rattle.sampling.proofs.Keeping.{keep-step}
+use mathlib.Core.Path.{_≡_, refl, ap, _∙_, sym}
+use Prim.Native.Nat.{_≤_, _-_, _*_}
+use native.Mathlib.Omega.{arith}
+use lib.ListN.{length}
+use lib.Seq.{sets, length-sets}
+use borrow.Author.Needs.{needs}
+use Rattle.geometry.specs.Rings.{ringOf}
+use Rattle.sampling.specs.Loop as loops
+use Rattle.sampling.proofs.keep.keep.Statement.{statement}
+use Rattle.sampling.proofs.keep.keep.Tie as tie
+
+abbrev Inv-loop : tie.InvT-loop
+Inv-loop coords n kept₀ m₀ k₀ kept m k = (k ≤ n) × (m ≤ k) × (m * 2 ≡ length (loops.kept (ringOf coords n) k)) × (kept ≡ sets kept₀ 0 (loops.kept (ringOf coords n) k)) × (length kept ≡ length kept₀)
+
+abbrev μ-loop : tie.MeasureT-loop
+μ-loop coords n kept₀ m₀ k₀ kept m k = n - k
+
+loop-holds : tie.Need-loop-holds Inv-loop μ-loop
+unfolding loops.kept
+loop-holds c = (omega arith, omega arith, refl, refl, refl)
+
+point-at-requires : tie.Need-point-at-requires Inv-loop μ-loop
+point-at-requires c κs = omega arith
+
+keep-point-requires : tie.Need-keep-point-requires Inv-loop μ-loop
+keep-point-requires c κs = omega arith
+
+add-k : tie.Need-add-k Inv-loop μ-loop
+add-k c = omega arith
+
+loop-less : tie.Need-loop-less Inv-loop μ-loop
+loop-less c = omega arith
+
+loop-again : tie.Need-loop-again Inv-loop μ-loop
+loop-again c =
+    let start = c .before .before .before .before .before .before .before .before .before in
+    let keep-point = c .before .before .keep-point in
+    let l = c .before .before .before .before .before .before .loop in
+    let s = keep-step (ringOf (start .args .coords .now) (start .args .n)) (start .args .kept .now) _ _ (l .k) (l .m) _ _ (l .inv .2) (l .inv .3) (omega arith) (c .before .before .before .before .point-at .ensures) (keep-point .ensures .0) (keep-point .ensures .1) in (
+      omega arith,
+      omega (arith, s .2),
+      s .0,
+      s .1,
+      keep-point .kept .0 ∙ l .inv .4,
+    )
+
+same-length : tie.Need-same-length Inv-loop μ-loop
+same-length c = c .before .loop .inv .4
+
+returns : tie.Need-returns Inv-loop μ-loop
+returns c =
+    let e : c .before .loop .k ≡ c .before .before .before .before .args .n = omega arith in
+    (omega arith, rw e at (c .before .loop .inv .2), rw e at (c .before .loop .inv .3))
+
+pub keep-spec : {M : Type 1} → statement M
+keep-spec =
+    tie.close
+    (tie.spec
+    Inv-loop
+    μ-loop
+    loop-holds
+    point-at-requires
+    keep-point-requires
+    add-k
+    loop-less
+    loop-again
+    same-length
+    returns)

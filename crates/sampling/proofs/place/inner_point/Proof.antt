@@ -1,0 +1,17 @@
+-- `sampling::place::inner_point` meets its contract.
+use Rattle.sampling.proofs.Literals.{half-is}
+use borrow.Author.Needs.{needs}
+use Rattle.sampling.proofs.place.inner_point.Statement.{statement}
+use Rattle.sampling.proofs.place.inner_point.Tie as tie
+
+whole-requires : tie.Need-whole-requires
+whole-requires c κs = search needs
+
+whole-requires-2 : tie.Need-whole-requires-2
+whole-requires-2 c κs = search needs
+
+returns : tie.Need-returns
+returns c = rw (half-is, c .before .before .before .before .before .before .before .whole .ensures, c .before .before .before .before .before .before .whole2 .ensures)
+
+pub inner-point-spec : {M : Type 1} → statement M
+inner-point-spec = tie.close (tie.spec whole-requires whole-requires-2 returns)

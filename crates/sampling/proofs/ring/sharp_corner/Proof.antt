@@ -1,0 +1,38 @@
+-- `sampling::ring::sharp_corner` meets its contract.
+use Rattle.sampling.proofs.Turning.{sharp-step}
+use borrow.Author.Needs.{needs}
+use Rattle.sampling.proofs.ring.sharp_corner.Statement.{statement}
+use Rattle.sampling.proofs.ring.sharp_corner.Tie as tie
+
+prev-of-requires : tie.Need-prev-of-requires
+prev-of-requires c κs = search needs
+
+next-of-requires : tie.Need-next-of-requires
+next-of-requires c κs = search needs
+
+ring-point-requires : tie.Need-ring-point-requires
+ring-point-requires c κs = search needs
+
+ring-point-requires-2 : tie.Need-ring-point-requires-2
+ring-point-requires-2 c κs = search needs
+
+ring-point-requires-3 : tie.Need-ring-point-requires-3
+ring-point-requires-3 c κs = search needs
+
+sharp-turn-requires : tie.Need-sharp-turn-requires
+sharp-turn-requires c κs = search needs
+
+returns : tie.Need-returns
+returns c = sharp-step _ _ _ _ _ _ _ _ (c .before .before .before .before .before .before .before .before .before .before .before .before .before .prev-of .ensures .0) (c .before .before .before .before .before .before .before .before .before .before .before .before .next-of .ensures .0) (c .before .before .before .before .before .before .before .before .before .before .before .ring-point .ensures) (c .before .before .before .before .before .before .before .before .before .before .ring-point2 .ensures) (c .before .before .before .before .before .before .before .before .before .ring-point3 .ensures) (c .sharp-turn .ensures)
+
+pub sharp-corner-spec : {M : Type 1} → statement M
+sharp-corner-spec =
+    tie.close
+    (tie.spec
+    prev-of-requires
+    next-of-requires
+    ring-point-requires
+    ring-point-requires-2
+    ring-point-requires-3
+    sharp-turn-requires
+    returns)

@@ -1,0 +1,27 @@
+-- `sampling::ring::turns` meets its contract: the sign of the area against the one asked for.
+use mathlib.Core.Path.{_≡_, refl}
+use mathlib.Core.Bool.{Bool, true, false, not, Bool·beq}
+use Rattle.sampling.proofs.Literals.{zero-is}
+use borrow.Author.Needs.{needs}
+use Rattle.sampling.proofs.ring.turns.Statement.{statement}
+use Rattle.sampling.proofs.ring.turns.Tie as tie
+
+positive : (b : Bool) → not b ≡ not (Bool·beq true b)
+positive true = refl
+positive false = refl
+
+other : (b : Bool) → b ≡ not (Bool·beq false b)
+other true = refl
+other false = refl
+
+signed-area-requires : tie.Need-signed-area-requires
+signed-area-requires c κs = search needs
+
+returns : tie.Need-returns
+returns c = rw (rw (zero-is, c .before .signed-area .ensures) at (c .if1 .taken)) (positive (c .before .before .before .args .ccw))
+
+returns-2 : tie.Need-returns-2
+returns-2 c = rw (rw (zero-is, c .before .signed-area .ensures) at (c .if1 .left)) (other (c .before .before .before .args .ccw))
+
+pub turns-spec : {M : Type 1} → statement M
+turns-spec = tie.close (tie.spec signed-area-requires returns returns-2)

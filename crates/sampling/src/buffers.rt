@@ -1,0 +1,81 @@
+// The lent buffers: zeros in them, and the eight counts.
+ghost use mathlib.Core.Path.{_≡_};
+ghost use mathlib.Core.List.{[], _∷_};
+ghost use lib.ListN.{length, replicate};
+ghost use Rattle.float.specs.Helpers.{decimal};
+ghost use Rattle.sampling.specs.State.{zeros};
+ghost use Rattle.sampling.specs.Call.{lengthsOf, lent};
+
+// Every place of `s` becomes 0.
+pub fn clear_floats(s: &mut [f64])
+    ensures { λ _. ⌜ now (s .exit) ≡ replicate (length (now (s .entry))) (decimal 0 0) ⌝ }
+{
+    let mut i = 0usize;
+    while i < s.len() {
+        s[i] = 0.0;
+        i += 1;
+    }
+}
+
+pub fn clear_nodes(s: &mut [u16])
+    ensures { λ _. ⌜ now (s .exit) ≡ replicate (length (now (s .entry))) 0 ⌝ }
+{
+    let mut node = 0usize;
+    while node < s.len() {
+        s[node] = 0;
+        node += 1;
+    }
+}
+
+pub fn clear_counts(s: &mut [u64])
+    ensures { λ _. ⌜ now (s .exit) ≡ replicate (length (now (s .entry))) 0 ⌝ }
+{
+    let mut count = 0usize;
+    while count < s.len() {
+        s[count] = 0;
+        count += 1;
+    }
+}
+
+// A refused job's buffers: zeros, whatever their lengths.
+pub fn clear_all(
+    points: &mut [f64],
+    quads: &mut [u16],
+    front_nodes: &mut [u16],
+    front_lengths: &mut [u16],
+    counts: &mut [u64],
+)
+    ensures { λ _. ⌜ lent (now (points .exit)) (now (quads .exit)) (now («front_nodes» .exit)) (now («front_lengths» .exit)) (now (counts .exit))
+        ≡ zeros (lengthsOf (length (now (points .entry))) (length (now (quads .entry))) (length (now («front_nodes» .entry))) (length (now («front_lengths» .entry))) (length (now (counts .entry)))) ⌝ }
+{
+    clear_floats(points);
+    clear_nodes(quads);
+    clear_nodes(front_nodes);
+    clear_nodes(front_lengths);
+    clear_counts(counts);
+}
+
+// The eight counts in document 01's order.
+pub fn put_counts(
+    counts: &mut [u64],
+    points: usize,
+    quads: usize,
+    fronts: usize,
+    row_quads: u64,
+    core_quads: u64,
+    row_rounds: u64,
+    passes: u64,
+    laid: u64,
+)
+    requires { ⌜ length (now counts) ≡ 8 ⌝ }
+    ensures { λ _. ⌜ now (counts .exit) ≡ points ∷ quads ∷ fronts ∷ «row_quads» ∷ «core_quads» ∷ «row_rounds» ∷ passes ∷ laid ∷ [] ⌝ }
+{
+    counts[0] = points as u64;
+    counts[1] = quads as u64;
+    counts[2] = fronts as u64;
+    counts[3] = row_quads;
+    counts[4] = core_quads;
+    counts[5] = row_rounds;
+    counts[6] = passes;
+    counts[7] = laid;
+}

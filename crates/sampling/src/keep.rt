@@ -1,0 +1,76 @@
+// Dropping and popping: a loop's points without those close to the point before.
+ghost use mathlib.Core.Path.{_≡_};
+ghost use mathlib.Core.Bool.{cond};
+ghost use Prim.Native.Nat.{_+_, _*_, _≤_, _<_};
+ghost use lib.ListN.{length, set};
+ghost use lib.Seq.{sets};
+ghost use Rattle.geometry.specs.Rings.{ringOf};
+ghost use Rattle.sampling.specs.Loop as loops;
+ghost use Rattle.sampling.specs.Kept.{closeToLast};
+use geometry::Point;
+
+// Both coordinate differences are below 1e-12.
+fn close(a: Point, b: Point) -> bool
+    ensures { λ r. ⌜ r ≡ loops.close a b ⌝ }
+{
+    if float::absolute(a.x - b.x) < 1e-12 {
+        return float::absolute(a.y - b.y) < 1e-12;
+    }
+    false
+}
+
+// Whether `p` is close to the last of the `m` points kept.
+fn close_to_last(kept: &[f64], m: usize, p: Point) -> bool
+    requires { ⌜ m * 2 ≤ length (now kept) ⌝ }
+    ensures { λ r. ⌜ r ≡ closeToLast (now (kept .entry)) m p ⌝ }
+{
+    if m == 0 {
+        return false;
+    }
+    close(geometry::point_at(kept, m - 1), p)
+}
+
+// Keeps `p` behind the `m` points kept, unless it is close to the last of them; answers how many are kept.
+fn keep_point(kept: &mut [f64], m: usize, p: Point) -> usize
+    requires { ⌜ m * 2 + 1 < length (now kept) ⌝ }
+    ensures { λ r. ⌜ (r ≡ cond (closeToLast (now (kept .entry)) m p) m (m + 1))
+        × (now (kept .exit) ≡ cond (closeToLast (now (kept .entry)) m p) (now (kept .entry)) (set (set (now (kept .entry)) (m * 2) (p .x)) (m * 2 + 1) (p .y))) ⌝ }
+{
+    if close_to_last(kept, m, p) {
+        return m;
+    }
+    geometry::put_point(kept, m, p.x, p.y);
+    m + 1
+}
+
+// Keeps the first `n` points, without those close to the last kept; answers how many are kept.
+pub fn keep(coords: &[f64], n: usize, kept: &mut [f64]) -> usize
+    requires { ⌜ (n * 2 ≤ length (now coords)) × (n * 2 ≤ length (now kept)) ⌝ }
+    ensures { λ r. ⌜ (r ≤ n) × (r * 2 ≡ length (loops.kept (ringOf (now (coords .entry)) n) n)) × (now (kept .exit) ≡ sets (now (kept .entry)) 0 (loops.kept (ringOf (now (coords .entry)) n) n)) ⌝ }
+{
+    let mut m = 0usize;
+    let mut k = 0usize;
+    while k < n {
+        let p = geometry::point_at(coords, k);
+        m = keep_point(kept, m, p);
+        k += 1;
+    }
+    m
+}
+
+// How many of the first `n` points are left when last points close to the first are popped.
+pub fn unclosed(kept: &[f64], n: usize) -> usize
+    requires { ⌜ n * 2 ≤ length (now kept) ⌝ }
+    ensures { λ r. ⌜ (r ≡ loops.unclosed (now (kept .entry)) n) × (r ≤ n) ⌝ }
+{
+    let mut m = n;
+    while 1 < m {
+        let first = geometry::point_at(kept, 0);
+        let last = geometry::point_at(kept, m - 1);
+        if !close(first, last) {
+            return m;
+        }
+        m -= 1;
+    }
+    m
+}

@@ -1,0 +1,63 @@
+//! compare SEED COUNT             all of these, COUNT each
+//! compare root SEED COUNT        the root of COUNT values against `f64::sqrt`
+//! compare functions SEED COUNT   each function, COUNT random calls
+//! compare sample SEED COUNT      the sampling of COUNT jobs, random and damaged
+//! compare rows SEED COUNT        a row on each of COUNT states, sound and damaged
+//!
+//! Every bit of the port's answers and every place of the lent buffers against the Rust's. The exit status is not 0 when
+//! one differs, or when a kind of answer that a call can give did not come up in 10,000 or more.
+
+mod functions;
+mod paver;
+mod port;
+mod root;
+
+use oracle::compare::{self, Report};
+use oracle::generate;
+use std::process::exit;
+
+fn told(report: Report, numbers: &[u8], count: u64) -> bool {
+    print!("{}", report.text());
+    let missing = report.missing(numbers);
+    if !missing.is_empty() {
+        println!("no answer had the number {missing:?}");
+    }
+    report.differences.is_empty() && (missing.is_empty() || count < 10_000)
+}
+
+fn other_counts(seed: u64) -> bool {
+    let wrong = paver::other_counts(&generate::job(seed, 0).job);
+    wrong.iter().for_each(|w| println!("DIFFERENCE {w}"));
+    wrong.is_empty()
+}
+
+fn sample(seed: u64, count: u64) -> bool {
+    told(compare::samples(&mut paver::Port, seed, count), &compare::SAMPLE_NUMBERS, count) & other_counts(seed)
+}
+
+fn rows(seed: u64, count: u64) -> bool {
+    told(compare::rows(&mut paver::Port, seed, count), &compare::ROW_NUMBERS, count) & other_counts(seed)
+}
+
+fn main() {
+    let mut words: Vec<String> = std::env::args().skip(1).collect();
+    if words.len() == 2 {
+        words.insert(0, "all".to_string());
+    }
+    let numbers: Option<Vec<u64>> = words.iter().skip(1).map(|w| w.parse().ok()).collect();
+    let Some(&[seed, count]) = numbers.as_deref() else { stop() };
+    let good = match words[0].as_str() {
+        "root" => root::run(seed, count),
+        "functions" => functions::run(seed, count),
+        "sample" => sample(seed, count),
+        "rows" => rows(seed, count),
+        "all" => root::run(seed, count) & functions::run(seed, count) & sample(seed, count) & rows(seed, count),
+        _ => stop(),
+    };
+    exit(if good { 0 } else { 1 })
+}
+
+fn stop() -> ! {
+    eprintln!("compare [root|functions|sample|rows] SEED COUNT");
+    exit(2)
+}

@@ -1,0 +1,58 @@
+//! The port as a paver, to be compared with the oracle.
+
+use crate::port::{self, lengths_of, port_job};
+use oracle::calls::{Buffers, Counts, Job};
+use oracle::compare::Paver;
+
+pub struct Port;
+
+fn answer(number: u32, counts: [u64; 8]) -> (u8, Counts) {
+    (u8::try_from(number).unwrap_or(u8::MAX), Counts::of(counts.map(|n| n as usize)))
+}
+
+impl Paver for Port {
+    fn sample(&mut self, job: &Job, b: &mut Buffers) -> (u8, Counts) {
+        // the counts held anything too
+        let mut counts = [0x0123_4567_89AB_CDEF; 8];
+        let n = port::sample(&port_job(job, &lengths_of(job)), b, &mut counts);
+        answer(n, counts)
+    }
+    fn row(&mut self, job: &Job, front: usize, b: &mut Buffers, counts: Counts) -> (u8, Counts) {
+        let mut counts = counts.list().map(|n| n as u64);
+        let n = port::row(&port_job(job, &lengths_of(job)), front as u64, b, &mut counts);
+        answer(n, counts)
+    }
+    fn job(&mut self, _: &Job, _: &mut Buffers) -> (u8, Counts) {
+        unimplemented!("the port has no job call yet")
+    }
+    fn close(&mut self, _: &Job, _: &mut Buffers, _: Counts) -> (u8, Counts) {
+        unimplemented!("the port has no closing call yet")
+    }
+    fn fan(&mut self, _: &Job, _: &mut Buffers, _: Counts) -> (u8, Counts) {
+        unimplemented!("the port has no fan call yet")
+    }
+}
+
+/// Counts of another length than eight are number 1: zeros after a sampling, no change after a row.
+pub fn other_counts(job: &Job) -> Vec<String> {
+    let lengths = lengths_of(job);
+    let job = port_job(job, &lengths);
+    let mut held = Buffers::new();
+    held.points.fill(1.5);
+    held.quads.fill(7);
+    held.front_nodes.fill(7);
+    held.front_lengths.fill(7);
+    let mut wrong = Vec::new();
+    for n in [0, 1, 7, 9, 100] {
+        let (mut b, mut counts) = (held.clone(), vec![7; n]);
+        let number = port::row(&job, 0, &mut b, &mut counts);
+        if number != 1 || !b.same(&held) || counts != vec![7; n] {
+            wrong.push(format!("a row with {n} counts answers {number}, or changes something"));
+        }
+        let number = port::sample(&job, &mut b, &mut counts);
+        if number != 1 || !b.same(&Buffers::new()) || counts != vec![0; n] {
+            wrong.push(format!("a sampling with {n} counts answers {number}, or leaves what was there"));
+        }
+    }
+    wrong
+}
