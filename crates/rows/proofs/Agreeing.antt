@@ -16,7 +16,7 @@ use Rattle.geometry.specs.Measures.{cornersPass}
 use Rattle.sampling.specs.State.{State, Quad, quad, nodes}
 use Rattle.sampling.specs.Job.{Job, refused, gives}
 use Rattle.paving.specs.Row.{new, cornersPassAt, every, quadPasses, front, rowQuads, rowStands, committed, nextRow}
-use Rattle.rows.specs.Candidate.{allProject, restStands, rowNumber, laidOn}
+use Rattle.candidate.specs.Candidate.{allProject, restStands, rowNumber, laidOn}
 use Rattle.rows.proofs.Growing.{length-quads}
 
 -- ---- tests joined

@@ -8,7 +8,7 @@ use borrow.Author.Tests.{leb-true, ltb-false, lt-leb, leb-false}
 use lib.Dec.{eqb, leb, ltb}
 use lib.ListN.{length, getD, take, set, replicate, length-append, length-replicate, length-map, length-set, List·getD-append}
 use lib.Seq.{take-at, length-take-le, getD-take}
-use Rattle.rows.proofs.Basics.{or-false, zero-one}
+use Rattle.candidate.proofs.Basics.{or-false, zero-one}
 use Rattle.float.specs.Helpers.{decimal}
 use Rattle.geometry.specs.Rings.{nodeRing}
 use Rattle.geometry.specs.Domain.{pairs}
@@ -18,7 +18,7 @@ use Rattle.sampling.specs.Sample.{numbered}
 use Rattle.paving.specs.Row.{every, front, new, rowQuads, rowStands, committed, nextRow}
 use Rattle.paving.specs.Given.{someFrom}
 use Rattle.rows.specs.Sound.{Sound, sizesOf}
-use Rattle.rows.proofs.Building.{projects, new-length}
+use Rattle.candidate.proofs.Building.{projects, new-length}
 use Rattle.rows.proofs.Growing.{length-numbered, length-quads, length-numbers}
 use Rattle.rows.proofs.Repeating.{all-below, from-both}
 use Rattle.rows.proofs.Reading.{Counted, sound-counted, fits, nodes-read, even-read, quads-read, fronts-read, front-nodes-read}

@@ -1,12 +1,3 @@
-pub mod Basics
-pub mod Every
-pub mod Sides
-pub mod Literals
-pub mod Projects
-pub mod Searching
-pub mod Building
-pub mod Cutting
-pub mod Standing
 pub mod Growing
 pub mod Reading
 pub mod Writing

@@ -8,7 +8,7 @@ use lib.Seq.{length-take-le}
 use Rattle.geometry.specs.Domain.{pairs}
 use Rattle.sampling.specs.State.{Lent, joined, quadsOf, countAt, nodes, reading}
 use Rattle.rows.specs.Sound.{Sound, sizesOf}
-use Rattle.rows.proofs.Cutting.{joined-cut, length-cut}
+use Rattle.candidate.proofs.Cutting.{joined-cut, length-cut}
 use Rattle.rows.proofs.Growing.{numbers}
 
 pub numbers-quadsOf : (n : ℕ) (xs : List ℕ) → n * 4 ≤ length xs → numbers (quadsOf n xs) ≡ take (n * 4) xs

@@ -10,7 +10,7 @@ use borrow.Author.Tests.{eq-eqb, ne-eqb, leb-false}
 use lib.Dec.{eqb, leb, ltb}
 use lib.ListN.{length, getD, take, drop, set, drop-of-length-le, take-append-drop, replicate, getD-replicate, length-replicate, length-set}
 use lib.Seq.{drop-cons, take-suc, take-all, getD-set-same, getD-set-other}
-use Rattle.rows.proofs.Basics.{or-true, or-no, or-assoc, or-false}
+use Rattle.candidate.proofs.Basics.{or-true, or-no, or-assoc, or-false}
 use Rattle.paving.specs.Given.{someFrom, someBelow, member, repeated}
 
 -- ---- a number out of bounds: the rest of the list decides

@@ -13,7 +13,7 @@ use Rattle.geometry.specs.Domain.{pairs}
 use Rattle.sampling.specs.State.{Lent, Lengths, lengths, countAt, reading}
 use Rattle.sampling.specs.Call.{lengthsOf}
 use Rattle.sampling.specs.Job.{wrongCoordinate}
-use Rattle.rows.proofs.Basics.{or-false}
+use Rattle.candidate.proofs.Basics.{or-false}
 use Rattle.paving.specs.Given.{someFrom, repeated, wrongCounts, wrongValues, wrongState}
 use Rattle.rows.specs.Sound.{Sound, sizesOf}
 use Rattle.rows.proofs.Repeating.{all-below, from-both}

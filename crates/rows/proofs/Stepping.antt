@@ -13,12 +13,12 @@ use Rattle.geometry.specs.Domain.{pairs}
 use Rattle.sampling.specs.State.{Lent, cut, countAt, nodes, reading, written}
 use Rattle.sampling.specs.Job.{Job, refused, gives, firstOf, test}
 use Rattle.sampling.specs.Call.{answer}
-use Rattle.rows.proofs.Basics.{twenty-one, twenty-two}
+use Rattle.candidate.proofs.Basics.{twenty-one, twenty-two}
 use Rattle.paving.specs.Row.{front, newPoints, nextRow}
 use Rattle.rows.specs.Sound.{Sound, Room, sizesOf}
-use Rattle.rows.specs.Candidate.{rowNumber, laidOn}
+use Rattle.candidate.specs.Candidate.{rowNumber, laidOn}
 use Rattle.paving.specs.RowCall.{kept}
-use Rattle.rows.proofs.Cutting.{cut-at, cut-length, part-below, part-length}
+use Rattle.candidate.proofs.Cutting.{cut-at, cut-length, part-below, part-length}
 use Rattle.rows.proofs.Agreeing.{next-agree}
 use Rattle.rows.proofs.Reading.{Counted, sound-counted, fits, points-long, even-read, quads-read}
 

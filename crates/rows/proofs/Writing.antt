@@ -14,8 +14,8 @@ use Rattle.sampling.specs.Call.{lent}
 use Rattle.sampling.specs.Sample.{numbered}
 use Rattle.paving.specs.Row.{front, rowQuads}
 use Rattle.rows.specs.Sound.{Sound, sizesOf}
-use Rattle.rows.specs.Candidate.{laidOn}
-use Rattle.rows.proofs.Cutting.{joined-cut, lengths-cut, cut-length}
+use Rattle.candidate.specs.Candidate.{laidOn}
+use Rattle.candidate.proofs.Cutting.{joined-cut, lengths-cut, cut-length}
 use Rattle.rows.proofs.Growing.{numbers, numbers-append, length-quads, length-numbered}
 use Rattle.rows.proofs.Reading.{Counted, sound-counted, fits, points-long, nodes-read, sizes-long, quads-read, fronts-read, quad-nodes-read}
 

@@ -1,5 +1,5 @@
 -- What the row asks of lent buffers: the part of document 01's number 25 that makes every read and every write fall within them. Definitions only.
--- proofs/Sounding.antt shows it of buffers that number 25 does not refuse, and again of what an accepted row leaves.
+-- proofs/Sounding.antt shows it of buffers that number 25 does not refuse; proofs/Fitting.antt of a state that fits, written, and that an accepted row leaves such a state.
 use mathlib.Core.Path.{_≡_}
 use mathlib.Core.List.{List}
 use Prim.Native.Nat.{ℕ, _+_, _*_, _<_, _≤_}

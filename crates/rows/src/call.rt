@@ -8,10 +8,10 @@ ghost use Rattle.sampling.specs.Call.{answer, job, lent};
 ghost use Rattle.paving.specs.Row.{nextRow};
 ghost use Rattle.rows.specs.Sound.{Sound};
 ghost use Rattle.paving.specs.RowCall.{kept, rowCall};
-use crate::candidate::row_number;
 use crate::given::wrong_state;
 use crate::laying::count;
 use crate::laying::lay_row;
+use candidate::row_number;
 use geometry::wide;
 use sampling::Options;
 

@@ -2,7 +2,7 @@
 ghost use mathlib.Core.Path.{_≡_};
 ghost use mathlib.Core.List.{[], _++_, _∷_, map};
 ghost use Prim.Native.Nat.{_*_, _+_, _-_, _<_, _≤_};
-ghost use lib.ListN.{getD, length, replicate, take};
+ghost use lib.ListN.{length, replicate, take};
 ghost use lib.Seq.{sets};
 ghost use Rattle.float.specs.Helpers.{decimal};
 ghost use Rattle.sampling.specs.State.{joined, padded, quadNodes};

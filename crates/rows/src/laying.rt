@@ -4,13 +4,13 @@ ghost use lib.ListN.{length};
 ghost use Rattle.sampling.specs.State.{reading, written};
 ghost use Rattle.sampling.specs.Call.{lent};
 ghost use Rattle.rows.specs.Sound.{Room, Sound};
-ghost use Rattle.rows.specs.Candidate.{laidOn};
+ghost use Rattle.candidate.specs.Candidate.{laidOn};
 use crate::commit::append_points;
 use crate::commit::append_quads;
 use crate::commit::clear_nodes;
 use crate::commit::renumber;
-use crate::fronts::front_at;
-use crate::fronts::nodes_of;
+use candidate::front_at;
+use candidate::nodes_of;
 
 pub fn count(n: u64) -> usize
     ensures { λ r. ⌜ r ≡ n ⌝ }

@@ -9,7 +9,7 @@ use Rattle.sampling.specs.State.{Lent, countAt}
 use Rattle.sampling.specs.Job.{Job}
 use Rattle.sampling.specs.Call.{job, lent}
 use Rattle.rows.specs.Sound.{sizesOf}
-use Rattle.rows.proofs.Cutting.{pairs-within}
+use Rattle.candidate.proofs.Cutting.{pairs-within}
 use Rattle.rows.proofs.Reading.{sizes-long, fits, sound-counted}
 use Rattle.rows.proofs.Stepping.{read-below, refuses, lays, row-read, has-room}
 use borrow.Author.Needs.{needs}

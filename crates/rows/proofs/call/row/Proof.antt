@@ -1,4 +1,5 @@
 -- `rows::call::row` meets its contract.
+use Rattle.paving.specs.RowCall.{rowAt, rowCall}
 use mathlib.Core.Path.{_≡_, sym, _∙_, ap}
 use native.Mathlib.Omega.{arith}
 use lib.ListN.{length}
@@ -6,19 +7,22 @@ use Rattle.sampling.specs.State.{Lent, Lengths}
 use Rattle.sampling.specs.Job.{Job}
 use Rattle.sampling.specs.Call.{job, lent}
 use Rattle.rows.proofs.Sounding.{sound}
-use Rattle.rows.proofs.Calling.{right-lengths, outline-read, input-refuses, state-refuses, no-front, goes-on}
+use Rattle.rows.proofs.Calling.{right-lengths, outline-read, input-refuses, state-refuses, no-front, state-stands, a-front}
 use borrow.Author.Needs.{needs}
 use Rattle.rows.proofs.call.row.Statement.{statement}
 use Rattle.rows.proofs.call.row.Tie as tie
+
+-- `rows::call::row` meets its contract.
 
 input-number-requires : tie.Need-input-number-requires
 input-number-requires c κs = search needs
 
 returns : tie.Need-returns
+unfolding rowCall
 returns c = let a = c .before .before .before .before .before .before .before .before .before .args in let b : Lent = lent (a .points .now) (a .quads .now) (a .front-nodes .now) (a .front-lengths .now) (a .counts .now) in
     let j : Job = job (a .coords .now) (a .loop-lengths .now) (a .h) (a .options) in
     let e = c .before .input-number .ensures in
-    input-refuses j (a .front) b _ e (c .if1 .taken)
+    input-refuses j b (rowAt j (a .front)) _ e (c .if1 .taken)
 
 wrong-state-requires : tie.Need-wrong-state-requires
 wrong-state-requires c κs = let a = c .before .before .before .before .before .before .before .before .before .before .before .before .before .before .args in let b : Lent = lent (a .points .now) (a .quads .now) (a .front-nodes .now) (a .front-lengths .now) (a .counts .now) in
@@ -43,10 +47,11 @@ same-length-5 : tie.Need-same-length-5
 same-length-5 c = search needs
 
 returns-2 : tie.Need-returns-2
+unfolding rowCall
 returns-2 c = let a = c .before .before .before .before .before .before .before .before .before .before .before .before .before .before .before .before .args in let b : Lent = lent (a .points .now) (a .quads .now) (a .front-nodes .now) (a .front-lengths .now) (a .counts .now) in
     let j : Job = job (a .coords .now) (a .loop-lengths .now) (a .h) (a .options) in
     let e = c .before .before .before .before .before .before .before .before .input-number .ensures in
-    state-refuses j (a .front) b _ e (c .before .before .before .before .before .before .before .if1 .left) _ (c .before .wrong-state .ensures) (c .if2 .taken)
+    state-refuses j b (rowAt j (a .front)) _ e (c .before .before .before .before .before .before .before .if1 .left) _ (c .before .wrong-state .ensures) (c .if2 .taken)
 
 slice-read-if3 : tie.Need-slice-read-if3
 slice-read-if3 c = let a = c .before .before .before .before .before .before .before .before .before .before .before .before .before .before .before .before .before .args in let b : Lent = lent (a .points .now) (a .quads .now) (a .front-nodes .now) (a .front-lengths .now) (a .counts .now) in
@@ -71,12 +76,13 @@ same-length-10 : tie.Need-same-length-10
 same-length-10 c = search needs
 
 returns-3 : tie.Need-returns-3
+unfolding rowCall
 returns-3 c = let a = c .before .before .before .before .before .before .before .before .before .before .before .before .before .before .before .before .before .before .args in let b : Lent = lent (a .points .now) (a .quads .now) (a .front-nodes .now) (a .front-lengths .now) (a .counts .now) in
     let j : Job = job (a .coords .now) (a .loop-lengths .now) (a .h) (a .options) in
     let e = c .before .before .before .before .before .before .before .before .before .before .input-number .ensures in
     let l = right-lengths j b _ e (c .before .before .before .before .before .before .before .before .before .if1 .left) in
     let s = sound b l (sym (c .before .before .before .wrong-state .ensures) ∙ c .before .before .if2 .left) in
-    no-front j (a .front) b _ e (c .before .before .before .before .before .before .before .before .before .if1 .left) _ (c .before .before .before .wrong-state .ensures) (c .before .before .if2 .left) s (c .if3 .taken)
+    state-stands j b (rowAt j (a .front)) _ e (c .before .before .before .before .before .before .before .before .before .if1 .left) _ (c .before .before .before .wrong-state .ensures) (c .before .before .if2 .left) _ (no-front j (a .front) b s (c .if3 .taken))
 
 count-requires : tie.Need-count-requires
 count-requires c κs = search needs
@@ -105,12 +111,14 @@ same-length-15 : tie.Need-same-length-15
 same-length-15 c = search needs
 
 returns-4 : tie.Need-returns-4
+unfolding rowCall
 returns-4 c = let a = c .before .before .before .before .before .before .before .before .before .before .before .before .before .before .before .before .before .before .before .before .before .before .before .before .before .before .before .before .before .before .before .before .before .before .before .args in let b : Lent = lent (a .points .now) (a .quads .now) (a .front-nodes .now) (a .front-lengths .now) (a .counts .now) in
     let j : Job = job (a .coords .now) (a .loop-lengths .now) (a .h) (a .options) in
     let e = c .before .before .before .before .before .before .before .before .before .before .before .before .before .before .before .before .before .before .before .before .before .before .before .before .before .before .before .input-number .ensures in
     let l = right-lengths j b _ e (c .before .before .before .before .before .before .before .before .before .before .before .before .before .before .before .before .before .before .before .before .before .before .before .before .before .before .if1 .left) in
     let s = sound b l (sym (c .before .before .before .before .before .before .before .before .before .before .before .before .before .before .before .before .before .before .before .before .wrong-state .ensures) ∙ c .before .before .before .before .before .before .before .before .before .before .before .before .before .before .before .before .before .before .before .if2 .left) in
-    goes-on j (a .front) b _ e (c .before .before .before .before .before .before .before .before .before .before .before .before .before .before .before .before .before .before .before .before .before .before .before .before .before .before .if1 .left) _ (c .before .before .before .before .before .before .before .before .before .before .before .before .before .before .before .before .before .before .before .before .wrong-state .ensures) (c .before .before .before .before .before .before .before .before .before .before .before .before .before .before .before .before .before .before .before .if2 .left) s _ (c .before .before .before .before .before .before .before .before .before .before .before .before .before .before .before .before .before .if3 .left) (rw (c .before .before .before .before .before .before .before .before .before .before .before .before .before .before .before .before .count .ensures) at (c .before .before .before .before .before .before .before .before .before .before .next-row .ensures))
+    state-stands j b (rowAt j (a .front)) _ e (c .before .before .before .before .before .before .before .before .before .before .before .before .before .before .before .before .before .before .before .before .before .before .before .before .before .before .if1 .left) _ (c .before .before .before .before .before .before .before .before .before .before .before .before .before .before .before .before .before .before .before .before .wrong-state .ensures) (c .before .before .before .before .before .before .before .before .before .before .before .before .before .before .before .before .before .before .before .if2 .left) _
+    (a-front j (a .front) b s _ (c .before .before .before .before .before .before .before .before .before .before .before .before .before .before .before .before .before .if3 .left) (rw (c .before .before .before .before .before .before .before .before .before .before .before .before .before .before .before .before .count .ensures) at (c .before .before .before .before .before .before .before .before .before .before .next-row .ensures)))
 
 pub row-spec : {M : Type 1} → statement M
 row-spec =

@@ -7,7 +7,7 @@ use lib.Seq.{length-take-le}
 use Rattle.sampling.specs.State.{Lent, Lengths}
 use Rattle.sampling.specs.Call.{lent}
 use Rattle.paving.specs.Given.{wrongCounts}
-use Rattle.rows.proofs.Literals.{billion-is}
+use Rattle.candidate.proofs.Literals.{billion-is}
 use Rattle.rows.proofs.Sounding.{counted, by-counts, by-nodes, by-coordinate, by-sums}
 use borrow.Author.Needs.{needs}
 use Rattle.rows.proofs.given.wrong_state.Statement.{statement}

@@ -8,7 +8,7 @@ use Rattle.geometry.specs.Domain.{pairs}
 use Rattle.sampling.specs.State.{Lent}
 use Rattle.sampling.specs.Call.{lent}
 use Rattle.rows.specs.Sound.{sizesOf}
-use Rattle.rows.proofs.Cutting.{pairs-within, part-is, cut-length}
+use Rattle.candidate.proofs.Cutting.{pairs-within, part-is, cut-length}
 use Rattle.rows.proofs.Writing.{laid-is}
 use borrow.Author.Needs.{needs}
 use Rattle.rows.proofs.laying.lay_row.Statement.{statement}

@@ -1,0 +1,9 @@
+pub mod Basics
+pub mod Every
+pub mod Sides
+pub mod Literals
+pub mod Projects
+pub mod Searching
+pub mod Building
+pub mod Cutting
+pub mod Standing

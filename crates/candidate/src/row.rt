@@ -1,0 +1,147 @@
+// A candidate row: the projections of a front's nodes, and the checks on them. Nothing lent is written here.
+ghost use mathlib.Core.Path.{_≡_};
+ghost use mathlib.Core.Bool.{cond};
+ghost use mathlib.Core.List.{[]};
+ghost use Prim.Native.Nat.{ℕ, _*_, _+_, _<_, _≤_};
+ghost use lib.ListN.{getD, length, take};
+ghost use Rattle.geometry.specs.Rings.{nodeRing};
+ghost use Rattle.paving.specs.Row.{newPoints};
+ghost use Rattle.candidate.specs.Candidate.{allProject, restStands, rowNumber};
+ghost use Rattle.geometry.specs.Domain.{pairs};
+ghost use Rattle.sampling.specs.State.{cut};
+ghost use Rattle.sampling.specs.Call.{job};
+use crate::Front;
+use crate::checks::all_corners_pass;
+use crate::checks::all_inside;
+use crate::checks::all_long_enough;
+use crate::checks::all_off_boundary;
+use crate::fronts::clear_of_fronts;
+use crate::fronts::front_at;
+use crate::fronts::nodes_of;
+use crate::projecting::project;
+use crate::simple::is_simple;
+use paving::Projection;
+use sampling::Options;
+
+// The projections of the nodes, from the front of `row`; 22 when a node does not project.
+pub fn project_row(points: &[f64], nodes: &[u16], h: f64, row: &mut [f64]) -> u32
+    requires { ⌜ length (now nodes) * 2 ≤ length (now row) ⌝ }
+    requires { ⌜ ((i : ℕ) → i < length (now nodes) → getD (now nodes) i 0 * 2 + 1 < length (now points)) ⌝ }
+    ensures { λ r. ⌜ r ≡ cond (allProject (nodeRing (now (points .entry)) (now (nodes .entry))) h) 0 22 ⌝ }
+    ensures { λ r. ⌜ (r ≡ 0 → take (length (now (nodes .entry)) * 2) (now (row .exit)) ≡ newPoints (nodeRing (now (points .entry)) (now (nodes .entry))) h (length (now (nodes .entry)))) ⌝ }
+{
+    let n = nodes.len();
+    for i in 0..n {
+        let before = geometry::prev_of(n, i);
+        let after = geometry::next_of(n, i);
+        let a = geometry::node_point(points, nodes, before);
+        let b = geometry::node_point(points, nodes, i);
+        let c = geometry::node_point(points, nodes, after);
+        let Projection::At(x, y) = project(a, b, c, h) else {
+            return 22;
+        };
+        geometry::put_point(row, i, x, y);
+    }
+    0
+}
+
+// The checks that follow the projection, on the new points `row` of front `li`.
+fn rest_stands(
+    coords: &[f64],
+    loop_lengths: &[u16],
+    h: f64,
+    options: Options,
+    points: &[f64],
+    front_nodes: &[u16],
+    lengths: &[u16],
+    li: usize,
+    front: Front,
+    row: &[f64],
+) -> bool
+    requires { ⌜ (li < length (now lengths)) × (front .start ≡ pairs (take li (now lengths))) × (front .len ≡ getD (now lengths) li 0) × (front .len * 2 ≤ length (now row)) ⌝ }
+    requires { ⌜ (pairs (now «loop_lengths») * 2 ≤ length (now coords)) × (pairs (now lengths) ≤ length (now «front_nodes»)) ⌝ }
+    requires { ⌜ ((i : ℕ) → i < pairs (now lengths) → getD (now «front_nodes») i 0 * 2 + 1 < length (now points)) ⌝ }
+    ensures { λ r. ⌜ r ≡ restStands (job (now (coords .entry)) (now («loop_lengths» .entry)) h options) (now (points .entry)) (cut (now (lengths .entry)) (now («front_nodes» .entry))) li (now (row .entry)) ⌝ }
+{
+    let start = front.start;
+    let n = front.len;
+    if !all_inside(coords, loop_lengths, row, n) {
+        return false;
+    }
+    if !all_off_boundary(coords, loop_lengths, row, n, 0.05 * h) {
+        return false;
+    }
+    if !all_long_enough(row, n, options.min_edge_fraction * h) {
+        return false;
+    }
+    if !clear_of_fronts(
+        points,
+        front_nodes,
+        lengths,
+        li,
+        row,
+        n,
+        options.front_gap * h,
+    ) {
+        return false;
+    }
+    if !is_simple(row, n) {
+        return false;
+    }
+    let old = nodes_of(front_nodes, start, n);
+    all_corners_pass(points, old, row, n)
+}
+
+// The number of a row on front `li`, where `quads` quads are laid: 0 when it stands. Its points are then the first of `row`.
+pub fn row_number(
+    coords: &[f64],
+    loop_lengths: &[u16],
+    h: f64,
+    options: Options,
+    points: &[f64],
+    front_nodes: &[u16],
+    lengths: &[u16],
+    quads: usize,
+    li: usize,
+    row: &mut [f64],
+) -> u32
+    requires { ⌜ (li < length (now lengths)) × (length (now lengths) ≤ 16) × (quads ≤ 4096) ⌝ }
+    requires { ⌜ (pairs (now «loop_lengths») * 2 ≤ length (now coords)) × (pairs (now lengths) ≤ length (now «front_nodes»)) × (pairs (now lengths) * 2 ≤ length (now row)) ⌝ }
+    requires { ⌜ ((i : ℕ) → i < pairs (now lengths) → getD (now «front_nodes») i 0 * 2 + 1 < length (now points)) ⌝ }
+    ensures { λ r. ⌜ r ≡ rowNumber (job (now (coords .entry)) (now («loop_lengths» .entry)) h options) (now (points .entry)) (cut (now (lengths .entry)) (now («front_nodes» .entry))) quads li ⌝ }
+    ensures { λ r. ⌜ (r ≡ 0 → take (getD (now (lengths .entry)) li 0 * 2) (now (row .exit)) ≡ newPoints (nodeRing (now (points .entry)) (getD (cut (now (lengths .entry)) (now («front_nodes» .entry))) li [])) h (getD (now (lengths .entry)) li 0)) ⌝ }
+{
+    let front = front_at(lengths, li);
+    let start = front.start;
+    let n = front.len;
+    if n < 6 {
+        return 22;
+    }
+    let old = nodes_of(front_nodes, start, n);
+    let number = project_row(points, old, h, row);
+    if number != 0 {
+        return number;
+    }
+    let m = n * 2;
+    if !rest_stands(
+        coords,
+        loop_lengths,
+        h,
+        options,
+        points,
+        front_nodes,
+        lengths,
+        li,
+        front,
+        &row[..m],
+    ) {
+        return 22;
+    }
+    if 4096 < points.len() / 2 + n {
+        return 21;
+    }
+    if 4096 < quads + n {
+        return 21;
+    }
+    0
+}
