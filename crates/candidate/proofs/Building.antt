@@ -2,9 +2,10 @@
 use mathlib.Core.Path.{_≡_, refl, sym, _∙_, ap}
 use mathlib.Core.Bool.{Bool, true, false, _&&_, true≢false}
 use mathlib.Core.List.{List, [], _∷_, _++_}
-use Prim.Native.Nat.{ℕ, zero, suc, _+_, _*_, _≤_}
+use Prim.Native.Nat.{ℕ, zero, suc, _+_, _-_, _*_, _≤_, _<_}
 use native.Mathlib.Numerals.{add-one}
 use native.Mathlib.Omega.{arith}
+use borrow.Author.Tests.{ne-eqb}
 use lib.Ieee.{Float}
 use lib.ListN.{length, take, set, length-append}
 use lib.Seq.{sets}
@@ -16,15 +17,27 @@ use Rattle.paving.specs.declared.Projection.{Projection}
 use Rattle.paving.specs.declared.Projection.the-variants.{At, Nothing}
 use Rattle.paving.specs.Projecting.{project, projectionNumber, projectionValues}
 use Rattle.paving.specs.Row.{every, projection, newPoints}
+use Rattle.candidate.proofs.Sides.{next-inner}
+
+prev-after : (n i : ℕ) → prev n (i + 1) ≡ i
+prev-after n i =
+    let e : i + 1 - 1 ≡ i = omega arith in
+    rw (ne-eqb (i + 1) 0 (λ z. omega arith)) e
+
+-- the nodes that a turn finds, and hands on to the next
+pub handed-on : (r : Ring) (i k : ℕ) (b c : Point) → i < r .size → b ≡ r .at i → c ≡ r .at k → k ≡ next (r .size) i
+    → i + 1 < r .size → (b ≡ r .at (prev (r .size) (i + 1))) × (c ≡ r .at (i + 1))
+handed-on r i k b c l hb hc hk m =
+    (hb ∙ ap (r .at) (sym (prev-after (r .size) i)), hc ∙ ap (r .at) (next-inner (r .size) i l hk m))
 
 module _ (r : Ring) (h : Float) where
   abbrev pub projects : ℕ → Bool
   projects i = eqb (projectionNumber (projection r h i)) 0
 
   -- a projection as a turn computes it
-  pub projected-at : (i j k : ℕ) (a b c : Point) (p : Projection) → p ≡ project a b c h → a ≡ r .at j → j ≡ prev (r .size) i → b ≡ r .at i → c ≡ r .at k
+  pub projected-at : (i k : ℕ) (a b c : Point) (p : Projection) → p ≡ project a b c h → (a ≡ r .at (prev (r .size) i)) × (b ≡ r .at i) → c ≡ r .at k
       → k ≡ next (r .size) i → p ≡ projection r h i
-  projected-at i j k a b c p hp ha hj hb hc hk = rw (hp, ha, hb, hc, hj, hk)
+  projected-at i k a b c p hp w hc hk = rw (hp, w .0, w .1, hc, hk)
 
   pub fails : (i : ℕ) (p : Projection) → p ≡ projection r h i → p ≡ Nothing → projects i ≡ false
   fails i p e f = rw (← e, f)

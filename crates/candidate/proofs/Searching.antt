@@ -1,27 +1,49 @@
 -- The search of the pairs of sides: a turn of each loop, and a crossing that was found is not lost.
-use mathlib.Core.Path.{_≡_, refl, sym}
-use mathlib.Core.Bool.{Bool, true, false, not}
+use mathlib.Core.Path.{_≡_, refl, sym, _∙_}
+use mathlib.Core.Bool.{Bool, true, false, not, cond}
+use mathlib.Core.Logic.{_⊎_, inl, inr}
 use Prim.Native.Nat.{ℕ, zero, suc, _+_, _-_, _≤_, _<_}
 use native.Mathlib.Nat.{add-zero, add-suc, zero-add}
 use native.Mathlib.Numerals.{add-one}
 use native.Mathlib.Omega.{arith}
-use borrow.Author.Tests.{eq-eqb, ne-eqb}
+use borrow.Author.Tests.{eqb-true, eqb-false, eq-eqb, ne-eqb}
 use lib.Dec.{eqb}
 use Rattle.geometry.specs.declared.Point.{Point}
 use Rattle.geometry.specs.Rings.{Ring, next}
 use Rattle.geometry.specs.Measures.{segmentsCross}
 use Rattle.candidate.proofs.Basics.{or-true}
+use Rattle.candidate.proofs.Sides.{next-inner}
+use Rattle.paving.proofs.Sides.{next-cases}
 use Rattle.paving.specs.Simple.{Search, neighbours, sidesCross, testPair, searchSide, search}
 
+-- ---- the sides that a side is tested with: from the next but one up to `end`
+end-cases : (n i end : ℕ) → 1 ≤ n → end ≡ cond (eqb i 0) (n - 1) n → ((i ≡ 0) × (end + 1 ≡ n)) ⊎ ((1 ≤ i) × (end ≡ n))
+end-cases n i end l e = go (eqb i 0) refl e
+  where
+    go : (b : Bool) → eqb i 0 ≡ b → end ≡ cond b (n - 1) n → ((i ≡ 0) × (end + 1 ≡ n)) ⊎ ((1 ≤ i) × (end ≡ n))
+    go true z f = inl (eqb-true i 0 z, omega arith)
+    go false z f = let d = eqb-false i 0 z in inr (omega (arith, d), f)
+
+pub end-within : (n i end : ℕ) → 1 ≤ n → end ≡ cond (eqb i 0) (n - 1) n → (end ≤ n) × (n ≤ end + 1)
+end-within n i end l e = elim (end-cases n i end l e) [ inl h ↦ (omega (arith, h .1), omega (arith, h .1)) | inr h ↦ (omega (arith, h .1), omega (arith, h .1)) ]
+
 -- ---- which pairs are neighbours
-pub before-it : (n i j k : ℕ) → k ≡ next n j → k ≡ i → neighbours n i j ≡ true
-before-it n i j k h e = rw (← h, eq-eqb k i e)
+next-is-neighbour : (n i : ℕ) → i + 1 < n → neighbours n i (i + 1) ≡ true
+next-is-neighbour n i l = rw (eq-eqb (next n i) (i + 1) (next-inner n i (omega arith) refl l)) (or-true (eqb (next n (i + 1)) i))
 
-pub after-it : (n i j k : ℕ) → k ≡ next n i → k ≡ j → neighbours n i j ≡ true
-after-it n i j k h e = rw (← h, eq-eqb k j e) (or-true (eqb (next n j) i))
+last-is-neighbour : (n end : ℕ) → end + 1 ≡ n → neighbours n 0 end ≡ true
+last-is-neighbour n end e =
+    elim (next-cases n end (omega arith)) [ inl h ↦ rw (eq-eqb (next n end) 0 (h .1)) | inr h ↦ absurd (omega (arith, h .0)) ]
 
-pub apart-from-it : (n i j k l : ℕ) → k ≡ next n j → l ≡ next n i → (k ≡ i → ⊥) → (l ≡ j → ⊥) → neighbours n i j ≡ false
-apart-from-it n i j k l h g e f = rw (← h, ← g, ne-eqb k i e, ne-eqb l j f)
+pub not-neighbours : (n i j end : ℕ) → 1 ≤ n → end ≡ cond (eqb i 0) (n - 1) n → i + 2 ≤ j → j < end → neighbours n i j ≡ false
+not-neighbours n i j end l e g m =
+    let w = end-within n i end l e in
+    let before : next n j ≡ i → ⊥ = λ z. elim (next-cases n j (omega arith)) [
+      | inl h ↦ elim (end-cases n i end l e) [ inl f ↦ omega (arith, h .0, f .1) | inr f ↦ omega (arith, h .1, z, f .0) ]
+      | inr h ↦ omega (arith, h .1, z)
+    ] in
+    let after : next n i ≡ j → ⊥ = λ z. let f = next-inner n i {k = next n i} (omega arith) refl (omega arith) in omega (arith, f, z) in
+    rw (ne-eqb (next n j) i before, ne-eqb (next n i) j after)
 
 module _ (r : Ring) where
   pub sides-cross : (i j k l : ℕ) (a b c d : Point) (f : Bool) → f ≡ segmentsCross a b c d → a ≡ r .at i → b ≡ r .at k → k ≡ next (r .size) i → c ≡ r .at j → d ≡ r .at l
@@ -33,11 +55,9 @@ module _ (r : Ring) where
   unfolding search
   none-yet = refl
 
-  pub side-none : (i : ℕ) → search r i .crossed ≡ false → searchSide r i (i + 1 - (i + 1)) (search r i) .crossed ≡ false
+  side-none : (i k : ℕ) → k ≡ 0 → search r i .crossed ≡ false → searchSide r i k (search r i) .crossed ≡ false
   unfolding searchSide
-  side-none i h =
-      let e : i + 1 - (i + 1) ≡ 0 = omega arith in
-      rw e h
+  side-none i k e h = rw e h
 
   -- ---- one pair
   pub skipped : (i j : ℕ) (s : Search) → neighbours (r .size) i j ≡ true → testPair r i j s .crossed ≡ s .crossed
@@ -70,6 +90,30 @@ module _ (r : Ring) where
   side-done i b l h =
       let e : r .size - 1 - i ≡ r .size - (i + 1) = omega arith in
       rw (add-one, e) h
+
+  -- the next side is passed over
+  pub side-begun : (i : ℕ) → i + 1 < r .size → search r i .crossed ≡ false → searchSide r i (i + 2 - (i + 1)) (search r i) .crossed ≡ false
+  side-begun i l h =
+      let e : i + 1 + 1 ≡ i + 2 = omega arith in
+      rw e at (side-more i (i + 1) (search r i) false (omega arith) (skipped i (i + 1) (searchSide r i (i + 1 - (i + 1)) (search r i)) (next-is-neighbour (r .size) i l) ∙ side-none i (i + 1 - (i + 1)) (omega arith) h))
+
+  -- and at the first side the last
+  pub side-ended : (i end : ℕ) → i + 2 ≤ end → 1 ≤ r .size → end ≡ cond (eqb i 0) (r .size - 1) (r .size)
+      → searchSide r i (end - (i + 1)) (search r i) .crossed ≡ false → searchSide r i (r .size - (i + 1)) (search r i) .crossed ≡ false
+  side-ended i end g l e h =
+      elim (end-cases (r .size) i end l e) [
+        | inl f ↦
+            let m : neighbours (r .size) i end ≡ true = rw (f .0) (last-is-neighbour (r .size) end (f .1)) in
+            rw (f .1) at (side-more i end (search r i) false (omega arith) (skipped i end (searchSide r i (end - (i + 1)) (search r i)) m ∙ h))
+        | inr f ↦ rw (f .1) at h
+      ]
+
+  -- the last two sides have no side to be tested with
+  pub last-two : (i : ℕ) → i + 2 ≡ r .size → search r i .crossed ≡ false → search r (r .size) .crossed ≡ false
+  last-two i e h =
+      let f : i + 1 + 1 ≡ r .size = omega arith in
+      let s : search r (i + 1) .crossed ≡ false = side-done i false (omega arith) (rw e at (side-begun i (omega arith) h)) in
+      rw f at (side-done (i + 1) false (omega arith) (side-none (i + 1) (r .size - (i + 1 + 1)) (omega arith) s))
 
   search-stays : (m d : ℕ) → search r m .crossed ≡ true → search r (m + d) .crossed ≡ true
   unfolding search searchSide

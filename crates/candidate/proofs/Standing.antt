@@ -1,6 +1,6 @@
 -- A candidate row's checks one after the other, and the definitions of the row made of them.
 use mathlib.Core.Path.{_≡_, refl, sym, _∙_}
-use mathlib.Core.Bool.{Bool, true, false, cond}
+use mathlib.Core.Bool.{Bool, true, false, cond, _&&_, and-assoc, and-comm}
 use mathlib.Core.List.{List, []}
 use Prim.Native.Nat.{ℕ, _+_, _*_, _/_, _<_, _≤_}
 use borrow.Author.Tests.{lt-leb, le-leb, lt-ltb, le-ltb}
@@ -16,37 +16,52 @@ use Rattle.paving.specs.Simple.{isSimple}
 use Rattle.paving.specs.Row.{newPoints}
 use Rattle.candidate.specs.Candidate.{allProject, allInside, allOffBoundary, allLongEnough, allClearOfFronts, allCornersPass, restStands, rowNumber}
 
--- ---- the checks after the projection, left at the first that fails
+-- ---- the checks after the projection, in the code's order, left at the first that fails
 
-module _ (j : Job) (pts : List Float) (fronts : List (List ℕ)) (li : ℕ) (row : List Float) (n : ℕ) (hn : n ≡ length (getD fronts li []))
-    (b1 : Bool) (e1 : b1 ≡ allInside (rings (j .coords) (j .loops)) row n) where
-  pub one-outside : b1 ≡ false → false ≡ restStands j pts fronts li row
+reordered : (a b c d e f : Bool) → (a && b && c && d && e && f) ≡ (a && b && (c && f) && d && e)
+reordered true true true d e f = and-comm (d && e) f ∙ sym (and-assoc f d e)
+reordered true true false d e f = refl
+reordered true false c d e f = refl
+reordered false b c d e f = refl
+
+module _ (j : Job) (pts : List Float) (fronts : List (List ℕ)) (li : ℕ) (row : List Float) (n : ℕ) (hn : n ≡ length (getD fronts li [])) where
+  abbrev inside : Bool
+  inside = allInside (rings (j .coords) (j .loops)) row n
+
+  abbrev off : Bool
+  off = allOffBoundary (rings (j .coords) (j .loops)) (decimal 5 2 ⊗ j .h) row n
+
+  abbrev long : Bool
+  long = allLongEnough (j .options .«min_edge_fraction» ⊗ j .h) row n
+
+  abbrev clear : Bool
+  clear = allClearOfFronts pts fronts li (j .options .«front_gap» ⊗ j .h) row n
+
+  abbrev corners : List ℕ → Bool
+  corners old = allCornersPass pts old row n
+
+  in-order : restStands j pts fronts li row ≡ (inside && off && (long && corners (getD fronts li [])) && clear && isSimple (ringOf row n))
   unfolding restStands
-  one-outside h = rw (← hn, ← e1, h)
+  in-order = rw (← hn) (reordered inside off long clear (isSimple (ringOf row n)) (corners (getD fronts li [])))
 
-  module _ (h1 : b1 ≡ true) (b2 : Bool) (e2 : b2 ≡ allOffBoundary (rings (j .coords) (j .loops)) (decimal 5 2 ⊗ j .h) row n) where
-    pub one-at-boundary : b2 ≡ false → false ≡ restStands j pts fronts li row
-    unfolding restStands
-    one-at-boundary h = rw (← hn, ← e1, h1, ← e2, h)
+  module _ (b1 : Bool) (e1 : b1 ≡ inside) where
+    pub one-outside : b1 ≡ false → false ≡ restStands j pts fronts li row
+    one-outside h = rw (in-order, ← e1, h)
 
-    module _ (h2 : b2 ≡ true) (b3 : Bool) (e3 : b3 ≡ allLongEnough (j .options .«min_edge_fraction» ⊗ j .h) row n) where
-      pub one-short : b3 ≡ false → false ≡ restStands j pts fronts li row
-      unfolding restStands
-      one-short h = rw (← hn, ← e1, h1, ← e2, h2, ← e3, h)
+    module _ (h1 : b1 ≡ true) (b2 : Bool) (e2 : b2 ≡ off) where
+      pub one-at-boundary : b2 ≡ false → false ≡ restStands j pts fronts li row
+      one-at-boundary h = rw (in-order, ← e1, h1, ← e2, h)
 
-      module _ (h3 : b3 ≡ true) (b4 : Bool) (e4 : b4 ≡ allClearOfFronts pts fronts li (j .options .«front_gap» ⊗ j .h) row n) where
-        pub one-near : b4 ≡ false → false ≡ restStands j pts fronts li row
-        unfolding restStands
-        one-near h = rw (← hn, ← e1, h1, ← e2, h2, ← e3, h3, ← e4, h)
+      module _ (h2 : b2 ≡ true) (old : List ℕ) (ho : old ≡ getD fronts li []) (b3 : Bool) (e3 : b3 ≡ (long && corners old)) where
+        pub one-quad-fails : b3 ≡ false → false ≡ restStands j pts fronts li row
+        one-quad-fails h = rw (in-order, ← e1, h1, ← e2, h2, ← ho, ← e3, h)
 
-        module _ (h4 : b4 ≡ true) (b5 : Bool) (e5 : b5 ≡ isSimple (ringOf row n)) where
-          pub two-cross : b5 ≡ false → false ≡ restStands j pts fronts li row
-          unfolding restStands
-          two-cross h = rw (← hn, ← e1, h1, ← e2, h2, ← e3, h3, ← e4, h4, ← e5, h)
+        module _ (h3 : b3 ≡ true) (b4 : Bool) (e4 : b4 ≡ clear) where
+          pub one-near : b4 ≡ false → false ≡ restStands j pts fronts li row
+          one-near h = rw (in-order, ← e1, h1, ← e2, h2, ← ho, ← e3, h3, ← e4, h)
 
-          pub corners-decide : b5 ≡ true → (old : List ℕ) (b6 : Bool) → old ≡ getD fronts li [] → b6 ≡ allCornersPass pts old row n → b6 ≡ restStands j pts fronts li row
-          unfolding restStands
-          corners-decide h old b6 ho e6 = rw (← hn, ← e1, h1, ← e2, h2, ← e3, h3, ← e4, h4, ← e5, h, ← ho) e6
+          pub crossing-decides : b4 ≡ true → (b5 : Bool) → b5 ≡ isSimple (ringOf row n) → b5 ≡ restStands j pts fronts li row
+          crossing-decides h b5 e5 = rw (in-order, ← e1, h1, ← e2, h2, ← ho, ← e3, h3, ← e4, h) e5
 
 -- ---- the number of a row
 

@@ -1,9 +1,9 @@
-// The checks of a candidate row, each over its `n` new points.
+// The checks of a candidate row that ask where its `n` new points stand.
 ghost use mathlib.Core.Path.{_≡_};
 ghost use Prim.Native.Nat.{ℕ, _*_, _+_, _<_, _≤_};
 ghost use lib.ListN.{getD, length};
 ghost use Rattle.geometry.specs.Domain.{pairs, rings};
-ghost use Rattle.candidate.specs.Candidate.{allClearOf, allCornersPass, allInside, allLongEnough, allOffBoundary};
+ghost use Rattle.candidate.specs.Candidate.{allClearOf, allInside, allOffBoundary};
 
 // Every new point is in the domain.
 pub fn all_inside(coords: &[f64], loops: &[u16], row: &[f64], n: usize) -> bool
@@ -33,22 +33,6 @@ pub fn all_off_boundary(coords: &[f64], loops: &[u16], row: &[f64], n: usize, le
     true
 }
 
-// No new side is shorter than `least`.
-pub fn all_long_enough(row: &[f64], n: usize, least: f64) -> bool
-    requires { ⌜ n * 2 ≤ length (now row) ⌝ }
-    ensures { λ r. ⌜ r ≡ allLongEnough least (now (row .entry)) n ⌝ }
-{
-    for i in 0..n {
-        let after = geometry::next_of(n, i);
-        let a = geometry::point_at(row, i);
-        let b = geometry::point_at(row, after);
-        if geometry::side_length(a, b) < least {
-            return false;
-        }
-    }
-    true
-}
-
 // No new point is nearer than `least` to the front of these nodes.
 pub fn all_clear_of(points: &[f64], nodes: &[u16], row: &[f64], n: usize, least: f64) -> bool
     requires { ⌜ n * 2 ≤ length (now row) ⌝ }
@@ -58,25 +42,6 @@ pub fn all_clear_of(points: &[f64], nodes: &[u16], row: &[f64], n: usize, least:
     for i in 0..n {
         let p = geometry::point_at(row, i);
         if geometry::front_distance(p, points, nodes) < least {
-            return false;
-        }
-    }
-    true
-}
-
-// Every quad between the old nodes and the new points passes the corner test.
-pub fn all_corners_pass(points: &[f64], old: &[u16], row: &[f64], n: usize) -> bool
-    requires { ⌜ (n * 2 ≤ length (now row)) × (n ≡ length (now old)) ⌝ }
-    requires { ⌜ ((i : ℕ) → i < length (now old) → getD (now old) i 0 * 2 + 1 < length (now points)) ⌝ }
-    ensures { λ r. ⌜ r ≡ allCornersPass (now (points .entry)) (now (old .entry)) (now (row .entry)) n ⌝ }
-{
-    for i in 0..n {
-        let after = geometry::next_of(n, i);
-        let a = geometry::node_point(points, old, i);
-        let b = geometry::node_point(points, old, after);
-        let c = geometry::point_at(row, after);
-        let d = geometry::point_at(row, i);
-        if !geometry::corners_pass(a, b, c, d) {
             return false;
         }
     }

@@ -3,12 +3,12 @@
 mod checks;
 mod fronts;
 mod projecting;
+mod quads;
 mod row;
 mod simple;
 
 pub use fronts::front_at;
 pub use fronts::nodes_of;
-pub use projecting::project;
 pub use row::row_number;
 pub use simple::is_simple;
 

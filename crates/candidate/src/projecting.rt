@@ -4,7 +4,7 @@ ghost use mathlib.Core.Bool.{_&&_, cond};
 ghost use lib.Ieee.{lt};
 ghost use Rattle.float.specs.Helpers.{decimal};
 ghost use Rattle.geometry.specs.F64.{_⊗_};
-ghost use Rattle.geometry.specs.Measures.{sharpTurn};
+ghost use Rattle.geometry.specs.Measures.{sharpTurn, sideLength};
 ghost use Rattle.paving.specs.Projecting as projecting;
 use geometry::Point;
 use paving::Projection;
@@ -21,12 +21,12 @@ fn extra(cross: f64, dot: f64, h: f64) -> f64
     0.0
 }
 
-// The point that `here` goes to, with the neighbours `before` and `after`; nothing where a side is too short or the angle too acute.
-pub fn project(before: Point, here: Point, after: Point, h: f64) -> Projection
+// The point that `here` goes to, with the neighbours `before` and `after` at the distances `l1` and `l2`; nothing where a side is
+// too short or the angle too acute.
+pub fn project(before: Point, here: Point, after: Point, l1: f64, l2: f64, h: f64) -> Projection
+    requires { ⌜ (l1 ≡ sideLength before here) × (l2 ≡ sideLength here after) ⌝ }
     ensures { λ r. ⌜ r ≡ projecting.project before here after h ⌝ }
 {
-    let l1 = geometry::side_length(before, here);
-    let l2 = geometry::side_length(here, after);
     if l1 < 1e-12 {
         return Projection::Nothing;
     }

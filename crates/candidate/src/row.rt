@@ -11,41 +11,47 @@ ghost use Rattle.geometry.specs.Domain.{pairs};
 ghost use Rattle.sampling.specs.State.{cut};
 ghost use Rattle.sampling.specs.Call.{job};
 use crate::Front;
-use crate::checks::all_corners_pass;
 use crate::checks::all_inside;
-use crate::checks::all_long_enough;
 use crate::checks::all_off_boundary;
 use crate::fronts::clear_of_fronts;
 use crate::fronts::front_at;
 use crate::fronts::nodes_of;
 use crate::projecting::project;
+use crate::quads::all_quads_stand;
 use crate::simple::is_simple;
 use paving::Projection;
 use sampling::Options;
 
-// The projections of the nodes, from the front of `row`; 22 when a node does not project.
+// The projections of the nodes, from the front of `row`; 22 when a node does not project. A side's length serves the nodes at both
+// of its ends.
 pub fn project_row(points: &[f64], nodes: &[u16], h: f64, row: &mut [f64]) -> u32
-    requires { ⌜ length (now nodes) * 2 ≤ length (now row) ⌝ }
+    requires { ⌜ (0 < length (now nodes)) × (length (now nodes) * 2 ≤ length (now row)) ⌝ }
     requires { ⌜ ((i : ℕ) → i < length (now nodes) → getD (now nodes) i 0 * 2 + 1 < length (now points)) ⌝ }
     ensures { λ r. ⌜ r ≡ cond (allProject (nodeRing (now (points .entry)) (now (nodes .entry))) h) 0 22 ⌝ }
     ensures { λ r. ⌜ (r ≡ 0 → take (length (now (nodes .entry)) * 2) (now (row .exit)) ≡ newPoints (nodeRing (now (points .entry)) (now (nodes .entry))) h (length (now (nodes .entry)))) ⌝ }
 {
     let n = nodes.len();
+    let last = geometry::prev_of(n, 0);
+    let mut a = geometry::node_point(points, nodes, last);
+    let mut b = geometry::node_point(points, nodes, 0);
+    let mut l1 = geometry::side_length(a, b);
     for i in 0..n {
-        let before = geometry::prev_of(n, i);
         let after = geometry::next_of(n, i);
-        let a = geometry::node_point(points, nodes, before);
-        let b = geometry::node_point(points, nodes, i);
         let c = geometry::node_point(points, nodes, after);
-        let Projection::At(x, y) = project(a, b, c, h) else {
+        let l2 = geometry::side_length(b, c);
+        let Projection::At(x, y) = project(a, b, c, l1, l2, h) else {
             return 22;
         };
         geometry::put_point(row, i, x, y);
+        a = b;
+        b = c;
+        l1 = l2;
     }
     0
 }
 
-// The checks that follow the projection, on the new points `row` of front `li`.
+// The checks that follow the projection, on the new points `row` of front `li`. Each refuses with the same number, so the dear ones,
+// on the other fronts and on pairs of sides, come last.
 fn rest_stands(
     coords: &[f64],
     loop_lengths: &[u16],
@@ -58,7 +64,7 @@ fn rest_stands(
     front: Front,
     row: &[f64],
 ) -> bool
-    requires { ⌜ (li < length (now lengths)) × (front .start ≡ pairs (take li (now lengths))) × (front .len ≡ getD (now lengths) li 0) × (front .len * 2 ≤ length (now row)) ⌝ }
+    requires { ⌜ (li < length (now lengths)) × (front .start ≡ pairs (take li (now lengths))) × (front .len ≡ getD (now lengths) li 0) × (0 < front .len) × (front .len * 2 ≤ length (now row)) ⌝ }
     requires { ⌜ (pairs (now «loop_lengths») * 2 ≤ length (now coords)) × (pairs (now lengths) ≤ length (now «front_nodes»)) ⌝ }
     requires { ⌜ ((i : ℕ) → i < pairs (now lengths) → getD (now «front_nodes») i 0 * 2 + 1 < length (now points)) ⌝ }
     ensures { λ r. ⌜ r ≡ restStands (job (now (coords .entry)) (now («loop_lengths» .entry)) h options) (now (points .entry)) (cut (now (lengths .entry)) (now («front_nodes» .entry))) li (now (row .entry)) ⌝ }
@@ -71,7 +77,8 @@ fn rest_stands(
     if !all_off_boundary(coords, loop_lengths, row, n, 0.05 * h) {
         return false;
     }
-    if !all_long_enough(row, n, options.min_edge_fraction * h) {
+    let old = nodes_of(front_nodes, start, n);
+    if !all_quads_stand(points, old, row, n, options.min_edge_fraction * h) {
         return false;
     }
     if !clear_of_fronts(
@@ -85,11 +92,7 @@ fn rest_stands(
     ) {
         return false;
     }
-    if !is_simple(row, n) {
-        return false;
-    }
-    let old = nodes_of(front_nodes, start, n);
-    all_corners_pass(points, old, row, n)
+    is_simple(row, n)
 }
 
 // The number of a row on front `li`, where `quads` quads are laid: 0 when it stands. Its points are then the first of `row`.
@@ -106,7 +109,7 @@ pub fn row_number(
     row: &mut [f64],
 ) -> u32
     requires { ⌜ (li < length (now lengths)) × (length (now lengths) ≤ 16) × (quads ≤ 4096) ⌝ }
-    requires { ⌜ (pairs (now «loop_lengths») * 2 ≤ length (now coords)) × (pairs (now lengths) ≤ length (now «front_nodes»)) × (pairs (now lengths) * 2 ≤ length (now row)) ⌝ }
+    requires { ⌜ (pairs (now «loop_lengths») * 2 ≤ length (now coords)) × (pairs (now lengths) ≤ length (now «front_nodes»)) × (getD (now lengths) li 0 * 2 ≤ length (now row)) ⌝ }
     requires { ⌜ ((i : ℕ) → i < pairs (now lengths) → getD (now «front_nodes») i 0 * 2 + 1 < length (now points)) ⌝ }
     ensures { λ r. ⌜ r ≡ rowNumber (job (now (coords .entry)) (now («loop_lengths» .entry)) h options) (now (points .entry)) (cut (now (lengths .entry)) (now («front_nodes» .entry))) quads li ⌝ }
     ensures { λ r. ⌜ (r ≡ 0 → take (getD (now (lengths .entry)) li 0 * 2) (now (row .exit)) ≡ newPoints (nodeRing (now (points .entry)) (getD (cut (now (lengths .entry)) (now («front_nodes» .entry))) li [])) h (getD (now (lengths .entry)) li 0)) ⌝ }

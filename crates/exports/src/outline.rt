@@ -1,4 +1,6 @@
-// The measures of an outline: the coordinates of all loops and the loops' lengths, the outer one first.
+// The measures of an outline: the coordinates of all loops and the loops' lengths, the outer one first. An outline of one
+// loop is its ring. A slice handed on is laid in memory, so where there are more loops it is lent by a name of its own: the
+// short way then lays down nothing.
 ghost use mathlib.Core.Path.{_≡_};
 ghost use Rattle.exports.specs.Measures.{point};
 ghost use Rattle.exports.specs.Outline.{areaOr, boundaryOr, containsOrNot, loopsFit};
@@ -26,8 +28,17 @@ fn loops_fit(coords: &[f64], loop_lengths: &[u16]) -> bool
 pub extern "C" fn pave_domain_area(coords: &[f64], loop_lengths: &[u16]) -> f64
     ensures { λ r. ⌜ r ≡ areaOr (now (coords .entry)) (now («loop_lengths» .entry)) ⌝ }
 {
+    if loop_lengths.len() == 1 {
+        let n = geometry::wide(loop_lengths[0]);
+        if coords.len() / 2 < n {
+            return 0.0 / 0.0;
+        }
+        return geometry::signed_area(coords, n) - -0.0;
+    }
     if loops_fit(coords, loop_lengths) {
-        return geometry::domain_area(coords, loop_lengths);
+        let all = coords;
+        let lengths = loop_lengths;
+        return geometry::domain_area(all, lengths);
     }
     0.0 / 0.0
 }
@@ -37,8 +48,17 @@ pub extern "C" fn pave_domain_area(coords: &[f64], loop_lengths: &[u16]) -> f64
 pub extern "C" fn pave_contains(x: f64, y: f64, coords: &[f64], loop_lengths: &[u16]) -> bool
     ensures { λ r. ⌜ r ≡ containsOrNot (point x y) (now (coords .entry)) (now («loop_lengths» .entry)) ⌝ }
 {
+    if loop_lengths.len() == 1 {
+        let n = geometry::wide(loop_lengths[0]);
+        if coords.len() / 2 < n {
+            return false;
+        }
+        return geometry::in_polygon(Point { x, y }, coords, n);
+    }
     if loops_fit(coords, loop_lengths) {
-        return geometry::contains(coords, loop_lengths, Point { x, y });
+        let all = coords;
+        let lengths = loop_lengths;
+        return geometry::contains(all, lengths, Point { x, y });
     }
     false
 }

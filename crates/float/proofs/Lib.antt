@@ -7,7 +7,8 @@ pub mod Whole
 pub mod Digits
 pub mod Scaled
 pub mod Patterns
-pub mod Halves
+pub mod Words
+pub mod Close
 pub mod Squares
 pub mod Theorems
 pub mod Order

@@ -50,7 +50,7 @@ at-top true true s v p = absurd p
 at-top true false s v p = absurd p
 at-top false b s v p = tt
 
-past-top : (a : Bool) (u v : Float) → T (not a) → cond a u v ≡ v
+pub past-top : (a : Bool) (u v : Float) → T (not a) → cond a u v ≡ v
 past-top true u v n = absurd n
 past-top false u v n = refl
 
@@ -74,7 +74,7 @@ read s (suc x) t h p =
       subst (λ (k : Float). HasValue k false ((t + 2 ^ 52) * 2 ^ x) (2 ^ 1074)) (sym is) (subst (λ (q : ℕ). HasValue v false (q * 2 ^ x) (2 ^ 1074)) (add-comm (2 ^ 52) t) (r .1)),
     )
 
-ofBits-is : (b : ℕ) → ofBits binary64 b ≡ ofFields binary64 (leb (2 ^ 63) b) (b % 2 ^ 63 / 2 ^ 52) (b % 2 ^ 52)
+pub ofBits-is : (b : ℕ) → ofBits binary64 b ≡ ofFields binary64 (leb (2 ^ 63) b) (b % 2 ^ 63 / 2 ^ 52) (b % 2 ^ 52)
 unfolding ofBits
 ofBits-is b = refl
 

@@ -50,7 +50,7 @@ four (suc k) = pow-suc 4 k ∙ ap (λ (p : ℕ). p * 4) (four k) ∙ go (2 ^ k) 
     go : (p : ℕ) → p * p * 4 ≡ p * 2 * (p * 2)
     go p = omega arith
 
-two-of : (r : ℕ) → r < 2 → 2 ^ r ≡ r + 1
+pub two-of : (r : ℕ) → r < 2 → 2 ^ r ≡ r + 1
 two-of zero h = refl
 two-of (suc zero) h = refl
 two-of (suc (suc r)) h = absurd (go r h)

@@ -4,6 +4,10 @@ ghost use mathlib.Core.Path.{_≡_};
 ghost use Prim.Native.Nat.{_+_, _*_, _/_, _%_, _≤_, _<_, _^_};
 ghost use Rattle.float.specs.Helpers as helpers;
 ghost use Rattle.float.specs.Root.{root as rootOf, wholeRoot};
+use near::near_digits;
+
+mod near;
+mod starts;
 
 // `x.abs()`
 pub fn absolute(x: f64) -> f64
@@ -99,104 +103,26 @@ fn whole_root(a: u64) -> u64
     q
 }
 
-// 2^26: a significand is taken apart there.
-const HALF: u64 = 0x400_0000;
-// 2^30: how far the upper parts of two squares may differ, either way; twice that, and that many halves.
-const SLACK: u64 = 0x4000_0000;
-
-const SLACK_TWICE: u64 = 0x8000_0000;
-
-const SLACK_HALVES: u64 = 0x100_0000_0000_0000;
-
-// Whether g is the whole number nearest to the root of a * 2^52: its square is within g of that number. Each part of
-// the square is taken off by itself, and where one does not fit the answer is no.
-fn is_nearest(a: u64, g: u64) -> bool
-    requires { ⌜ (a < 2 ^ 54) × (g < 2 ^ 53) ⌝ }
-    ensures { λ r. ⌜ (r ≡ true → (g * g < a * 2 ^ 52 + g) × (a * 2 ^ 52 ≤ g * g + g)) ⌝ }
-{
-    let h = g / HALF;
-    let l = g % HALF;
-    let hh = h * h;
-    if hh <= a {
-        let d = a - hh;
-        if d < SLACK {
-            let hl = h * l * 2;
-            let over = d * HALF + SLACK;
-            if hl <= over {
-                let e = over - hl;
-                if e < SLACK_TWICE {
-                    let t = e * HALF;
-                    let u = l * l + SLACK_HALVES;
-                    if u < t + g {
-                        return t <= u + g;
-                    }
-                }
-            }
-        }
-    }
-    false
-}
-
-// The root of a * 4^27, rounded to 53 digits: the guess, where it is right.
-fn rounded_root(a: u64, guess: u64) -> u64
-    requires { ⌜ (a < 2 ^ 54) × (guess < 2 ^ 53) ⌝ }
-    ensures { λ r. ⌜ r ≡ (wholeRoot 54 (a * 4 ^ 27) + 1) / 2 ⌝ }
-{
-    if is_nearest(a, guess) {
-        return guess;
-    }
-    (whole_root(a) + 1) / 2
-}
-
-// The upper half of the digits of g.
-fn upper(g: f64) -> f64 {
-    let t = g * 134217729.0;
-    t - (t - g)
-}
-
-// The 53 digits of a number from 1 up to 2.
-fn digits_of(x: f64) -> u64
-    ensures { λ r. ⌜ r < 2 ^ 53 ⌝ }
-{
-    if x == x {
-        return f64::to_bits(x) % LEAD + LEAD;
-    }
-    0
-}
-
-// The bits of 1/2 and of 1, and what those of the root of 2 are above the last.
-const ONE_HALF_BITS: u64 = 0x3FE0_0000_0000_0000;
-
-const ONE_BITS: u64 = 0x3FF0_0000_0000_0000;
-
-const ROOT_TWO_ABOVE: u64 = 0x6_A09E_667F_3BCD;
-
-// A first guess at the root of s or 2s, for an s of 53 digits: a polynomial, a step of Newton's method, and a last one
-// whose remainder is exact. Nearly always it is the right one, and nothing rests on that.
-fn guess(s: u64, odd: u64) -> u64
-    requires { ⌜ (s < 2 ^ 53) × (odd < 2) ⌝ }
-    ensures { λ r. ⌜ r < 2 ^ 53 ⌝ }
-{
-    // m is from 1 up to 2, y is m or 2m, and scale is 1 or the root of 2
-    let m = f64::from_bits(s + ONE_HALF_BITS);
-    let y = f64::from_bits(s + ONE_HALF_BITS + odd * LEAD);
-    let scale = f64::from_bits(odd * ROOT_TWO_ABOVE + ONE_BITS);
-    let mm = m * m;
-    let p = scale
-        * (0.32395383 + m * 0.91971188 + mm * (m * 0.088572551 - 0.32149351 - mm * 0.010736388));
-    let g = (p + y / p) * 0.5;
-    let high = upper(g);
-    digits_of(high + (y - high * high) / (high + g))
-}
-
 // The bits of the root of s * 2^(w - 52) units of the smallest f64, for an s of 53 binary digits.
 fn root_bits(s: u64, w: u64) -> u64
     requires { ⌜ (s < 2 ^ 53) × (w < 2098) ⌝ }
     ensures { λ r. ⌜ r ≡ (w / 2 + 485) * 2 ^ 52 + (wholeRoot 54 (s * (w % 2 + 1) * 4 ^ 27) + 1) / 2 ⌝ }
 {
-    let odd = w % 2;
-    let r = rounded_root(s * (odd + 1), guess(s, odd));
+    let r = (whole_root(s * (w % 2 + 1)) + 1) / 2;
     (w / 2 + 485) * LEAD + r
+}
+
+// The same of the number with the bits `b`, where the digits near its root are right without finding them one by one.
+fn normal_bits(b: u64) -> u64
+    requires { ⌜ b < 0x7FF0_0000_0000_0000 ⌝ }
+    ensures { λ r. ⌜ r ≡ ((b / 2 ^ 52 + 51) / 2 + 485) * 2 ^ 52 + (wholeRoot 54 ((b % 2 ^ 52 + 2 ^ 52) * ((b / 2 ^ 52 + 51) % 2 + 1) * 4 ^ 27) + 1) / 2 ⌝ }
+{
+    let w = b / LEAD + 51;
+    let g = near_digits((b + LEAD) % (LEAD * 2));
+    if g != 0 {
+        return (w / 2 + 485) * LEAD + g;
+    }
+    root_bits(b % LEAD + LEAD, w)
 }
 
 // `x.sqrt()`
@@ -210,8 +136,7 @@ pub fn root(x: f64) -> f64
                 let z = u64::leading_zeros(b) as u64;
                 return f64::from_bits(root_bits(b << (z - 11), 63 - z));
             }
-            let w = b / LEAD + 51;
-            return f64::from_bits(root_bits(b % LEAD + LEAD, w));
+            return f64::from_bits(normal_bits(b));
         }
         return x;
     }

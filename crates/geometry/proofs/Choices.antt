@@ -21,17 +21,17 @@ differ false true w h = refl
 differ true true w h = absurd (true≢false h)
 differ false false w h = absurd (true≢false h)
 
-module _ (p a b : Point) where
+module _ (p a b : Point) (u v : Bool) (below : (u ≡ lt (p .y) (a .y)) × (v ≡ lt (p .y) (b .y))) where
   abbrev across : Bool
   across = lt (p .x) (a .x ⊕ (p .y ⊖ a .y) ⊘ (b .y ⊖ a .y) ⊗ (b .x ⊖ a .x))
 
-  pub ray-beside : Bool·beq (lt (p .y) (a .y)) (lt (p .y) (b .y)) ≡ true → false ≡ rayCrosses p a b
+  pub ray-beside : Bool·beq u v ≡ true → false ≡ rayCrosses p a b
   unfolding rayCrosses
-  ray-beside h = agree (lt (p .y) (a .y)) (lt (p .y) (b .y)) across h
+  ray-beside h = rw (← below .0, ← below .1) (agree u v across h)
 
-  pub ray-between : Bool·beq (lt (p .y) (a .y)) (lt (p .y) (b .y)) ≡ false → across ≡ rayCrosses p a b
+  pub ray-between : Bool·beq u v ≡ false → across ≡ rayCrosses p a b
   unfolding rayCrosses
-  ray-between h = differ (lt (p .y) (a .y)) (lt (p .y) (b .y)) across h
+  ray-between h = rw (← below .0, ← below .1) (differ u v across h)
 
 -- ---- the square of the distance to a segment: to its first end, and to the foot
 module _ (short : Float) (p a b : Point) where

@@ -31,6 +31,11 @@ pub limit-is : ofBits binary64 4590944653792149762 ≡ decimal 8715574274765817 
 unfolding round ofBits
 limit-is = refl
 
+-- half of 0
+pub half-zero-is : div binary64 (decimal 0 0) (decimal 2 0) ≡ decimal 0 0
+unfolding div round
+half-zero-is = refl
+
 -- 1.0 / 0.0
 pub infinity-is : div binary64 (ofBits binary64 0x3FF0_0000_0000_0000) (ofBits binary64 0) ≡ inf false
 unfolding div ofBits

@@ -28,7 +28,7 @@ fn corner_value(before: Point, here: Point, after: Point, back: f64, forth: f64)
 }
 
 // Whether a quad's corner has a finite value above the limit.
-fn corner_passes(before: Point, here: Point, after: Point, back: f64, forth: f64) -> bool
+pub fn corner_passes(before: Point, here: Point, after: Point, back: f64, forth: f64) -> bool
     requires { ⌜ (back ≡ sideLength here before) × (forth ≡ sideLength here after) ⌝ }
     ensures { λ r. ⌜ r ≡ cornerPasses (cornerValue before here after) ⌝ }
 {

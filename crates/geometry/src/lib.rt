@@ -7,6 +7,7 @@ mod points;
 mod rings;
 mod sides;
 
+pub use corners::corner_passes;
 pub use corners::corners_pass;
 pub use corners::least_corner;
 pub use corners::quad_area;

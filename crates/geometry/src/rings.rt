@@ -13,41 +13,66 @@ use crate::points::node_point;
 use crate::points::point_at;
 use crate::points::prev_of;
 use crate::sides::area_term;
+use crate::sides::crosses_between;
 use crate::sides::nearer_of;
 use crate::sides::ray_crosses;
 use crate::sides::segment_square;
 use crate::sides::side_length;
 
-// The signed area of the ring of the first `n` points.
+// The signed area of the ring of the first `n` points: three sides a turn, then those left, if any, one by one, and the closing side.
 pub fn signed_area(pts: &[f64], n: usize) -> f64
     requires { ⌜ n * 2 ≤ length (now pts) ⌝ }
     ensures { λ r. ⌜ r ≡ signedArea (ringOf (now (pts .entry)) n) ⌝ }
 {
+    if n == 0 {
+        return 0.0;
+    }
+    let first = point_at(pts, 0);
     let mut sum = 0.0;
-    let mut i = 0usize;
+    let mut a = first;
+    let mut i = 1usize;
+    while i + 2 < n {
+        let b = point_at(pts, i);
+        let c = point_at(pts, i + 1);
+        let d = point_at(pts, i + 2);
+        sum = sum + area_term(a, b) + area_term(b, c) + area_term(c, d);
+        a = d;
+        i += 3;
+    }
+    if i == n {
+        return (sum + area_term(a, first)) / 2.0;
+    }
     while i < n {
-        let j = next_of(n, i);
-        let a = point_at(pts, i);
-        let b = point_at(pts, j);
+        let b = point_at(pts, i);
         sum = sum + area_term(a, b);
+        a = b;
         i += 1;
     }
-    sum / 2.0
+    (sum + area_term(a, first)) / 2.0
 }
 
-// Whether `p` is within the ring of the first `n` points.
+// Whether `p` is within the ring of the first `n` points: the closing side first, then side by side, with the test of an end kept for the next side.
 pub fn in_polygon(p: Point, pts: &[f64], n: usize) -> bool
     requires { ⌜ n * 2 ≤ length (now pts) ⌝ }
     ensures { λ r. ⌜ r ≡ inPolygon p (ringOf (now (pts .entry)) n) ⌝ }
 {
-    let mut inside = false;
+    if n == 0 {
+        return false;
+    }
+    let last = n - 1;
+    let end = point_at(pts, last);
+    let first = point_at(pts, 0);
+    let mut inside = ray_crosses(p, end, first);
+    let mut below = p.y < first.y;
     let mut i = 0usize;
-    while i < n {
-        let j = next_of(n, i);
+    while i < last {
+        let j = i + 1;
         let a = point_at(pts, i);
         let b = point_at(pts, j);
-        inside = inside != ray_crosses(p, a, b);
-        i += 1;
+        let below_b = p.y < b.y;
+        inside = inside != crosses_between(p, a, b, below, below_b);
+        below = below_b;
+        i = j;
     }
     inside
 }
@@ -87,20 +112,29 @@ pub fn front_length(pts: &[f64], nodes: &[u16]) -> f64
     sum
 }
 
-// Whether `p` is within a front.
+// Whether `p` is within a front: as `in_polygon`.
 pub fn in_front(p: Point, pts: &[f64], nodes: &[u16]) -> bool
     requires { ⌜ ((i : ℕ) → i < length (now nodes) → getD (now nodes) i 0 * 2 + 1 < length (now pts)) ⌝ }
     ensures { λ r. ⌜ r ≡ inPolygon p (nodeRing (now (pts .entry)) (now (nodes .entry))) ⌝ }
 {
     let n = nodes.len();
-    let mut inside = false;
+    if n == 0 {
+        return false;
+    }
+    let last = n - 1;
+    let end = node_point(pts, nodes, last);
+    let first = node_point(pts, nodes, 0);
+    let mut inside = ray_crosses(p, end, first);
+    let mut below = p.y < first.y;
     let mut i = 0usize;
-    while i < n {
-        let j = next_of(n, i);
+    while i < last {
+        let j = i + 1;
         let a = node_point(pts, nodes, i);
         let b = node_point(pts, nodes, j);
-        inside = inside != ray_crosses(p, a, b);
-        i += 1;
+        let below_b = p.y < b.y;
+        inside = inside != crosses_between(p, a, b, below, below_b);
+        below = below_b;
+        i = j;
     }
     inside
 }

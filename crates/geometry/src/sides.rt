@@ -1,5 +1,6 @@
 // Measures of one side, and of two.
 ghost use mathlib.Core.Path.{_≡_};
+ghost use lib.Ieee.{lt};
 ghost use Rattle.geometry.specs.Measures.{apart, areaTerm, rayCrosses, segmentDistance, segmentsCross, sideLength, turn};
 ghost use Rattle.geometry.specs.Squares.{nearer, segmentSquare};
 use crate::Point;
@@ -20,17 +21,25 @@ pub fn area_term(a: Point, b: Point) -> f64
     a.x * b.y - b.x * a.y
 }
 
+// Whether the ray from `p` to the right crosses the side, from the tests whether `p` is below its ends.
+pub fn crosses_between(p: Point, a: Point, b: Point, below_a: bool, below_b: bool) -> bool
+    requires { ⌜ («below_a» ≡ lt (p .y) (a .y)) × («below_b» ≡ lt (p .y) (b .y)) ⌝ }
+    ensures { λ r. ⌜ r ≡ rayCrosses p a b ⌝ }
+{
+    if below_a == below_b {
+        return false;
+    }
+    let t = (p.y - a.y) / (b.y - a.y);
+    p.x < a.x + t * (b.x - a.x)
+}
+
 // Whether the ray from `p` to the right crosses the side. The side is half open, so a vertex on the ray counts once.
 pub fn ray_crosses(p: Point, a: Point, b: Point) -> bool
     ensures { λ r. ⌜ r ≡ rayCrosses p a b ⌝ }
 {
     let below_a = p.y < a.y;
     let below_b = p.y < b.y;
-    if below_a == below_b {
-        return false;
-    }
-    let t = (p.y - a.y) / (b.y - a.y);
-    p.x < a.x + t * (b.x - a.x)
+    crosses_between(p, a, b, below_a, below_b)
 }
 
 // The square of the distance from `p` to the side; one whose squared length is at most `short` counts as the point `a`.

@@ -1,4 +1,4 @@
--- For whoever lays row after row: a state that fits the buffers has sound ones when it is written, and an accepted row leaves a state that fits.
+-- For whoever lays row after row: a state that fits the buffers has sound and clean ones when it is written, an accepted row leaves a state that fits, and so a row leaves buffers on which the next can be laid.
 use mathlib.Core.Path.{_≡_, refl, sym, _∙_, ap}
 use mathlib.Core.Bool.{Bool, true, false, not, cond, _&&_, _||_, true≢false}
 use mathlib.Core.List.{List, [], _∷_, _++_, map}
@@ -12,12 +12,15 @@ use Rattle.candidate.proofs.Basics.{or-false, zero-one}
 use Rattle.float.specs.Helpers.{decimal}
 use Rattle.geometry.specs.Rings.{nodeRing}
 use Rattle.geometry.specs.Domain.{pairs}
-use Rattle.sampling.specs.State.{State, Lent, countAt, quadNodes, joined, padded, nodes, written, reading}
-use Rattle.sampling.specs.Job.{Job, refused, gives, firstOf, test}
+use Rattle.sampling.specs.State.{State, Lent, Answer, countAt, quadNodes, joined, padded, nodes, written, reading}
+use Rattle.sampling.specs.Job.{Job, Outcome, refused, gives, firstOf, test}
+use Rattle.sampling.specs.Call.{answer}
 use Rattle.sampling.specs.Sample.{numbered}
 use Rattle.paving.specs.Row.{every, front, new, rowQuads, rowStands, committed, nextRow}
 use Rattle.paving.specs.Given.{someFrom}
-use Rattle.rows.specs.Sound.{Sound, sizesOf}
+use Rattle.paving.specs.RowCall.{kept}
+use Rattle.paving.proofs.Written.{reading-written}
+use Rattle.rows.specs.Sound.{Sound, Clean, sizesOf}
 use Rattle.candidate.proofs.Building.{projects, new-length}
 use Rattle.rows.proofs.Growing.{length-numbered, length-quads, length-numbers}
 use Rattle.rows.proofs.Repeating.{all-below, from-both}
@@ -34,7 +37,7 @@ pub record Fit (s : State) : Type 0 where
   pub rowQuads : s .rowQuads ≤ length (s .quads)
   pub rowRounds : 6 * s .rowRounds ≤ s .rowQuads
 
--- ---- written, its buffers are sound
+-- ---- written, its buffers are sound and clean
 
 padded-long : {A : Type 0} (n : ℕ) (z : A) (xs : List A) → length xs ≤ n → length (padded n z xs) ≡ n
 padded-long n z xs h = length-append xs (replicate (n - length xs) z) ∙ rw length-replicate (omega arith)
@@ -77,6 +80,9 @@ module _ (s : State) (fit : Fit s) where
         rowQuads = fit .rowQuads;
         rowRounds = fit .rowRounds;
       }
+
+  pub clean-written : Clean (written s)
+  clean-written = ap written (sym (reading-written s (let e = fit .even in omega arith)))
 
 -- ---- an accepted row leaves a state that fits
 
@@ -196,3 +202,13 @@ module _ (b : Lent) (sound : Sound b) where
     rowQuads = rw (others-in .0, quads-read b counted) (sound .rowQuads);
     rowRounds = rw (others-in .0, others-in .1) (sound .rowRounds);
   }
+
+-- ---- a row, laid or refused, leaves sound and clean buffers
+
+pub next-ready : (j : Job) (b l : Lent) (li r : ℕ) → Sound b → Clean b → answer r l ≡ kept b (nextRow j (reading b) li) → Sound l × Clean l
+unfolding kept
+next-ready j b l li r sound clean e = go (nextRow j (reading b) li) refl e
+  where
+    go : (o : Outcome State) → nextRow j (reading b) li ≡ o → answer r l ≡ kept b o → Sound l × Clean l
+    go (refused n) f g = let h : l ≡ b = ap (λ (a : Answer). a .lent) g in rw h (sound, clean)
+    go (gives t) f g = let h : l ≡ written t = ap (λ (a : Answer). a .lent) g in let fit = fit-row j (reading b) li (fit-read b sound) t f in rw h (sound-written t fit, clean-written t fit)

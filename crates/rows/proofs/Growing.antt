@@ -2,30 +2,77 @@
 use mathlib.Core.Path.{_≡_, refl, sym, _∙_, ap}
 use mathlib.Core.List.{List, [], _∷_, _++_, map, map-append, append-assoc, append-nil}
 use Prim.Native.Nat.{ℕ, zero, suc, _+_, _-_, _*_, _<_, _≤_}
-use native.Mathlib.Nat.{add-suc, suc-add, add-zero}
+use native.Mathlib.Nat.{add-suc, suc-add, add-zero, zero-add}
 use native.Mathlib.Numerals.{add-one}
 use native.Mathlib.Omega.{arith}
-use lib.ListN.{length, getD, take, drop, set, replicate, length-append, length-drop}
-use lib.Seq.{drop-length, sets, sets-eq, take-at, take-suc, take-length, length-take-le}
-use borrow.Rule.Slice.PartMut.{midOf, putMid, post-is}
+use lib.ListN.{length, getD, take, drop, set, replicate, length-append, length-replicate, take-append-drop}
+use lib.Seq.{drop-at, drop-set-add, drop-set-lt, sets, sets-eq, take-at, take-set-le, take-suc, take-length, length-take-le}
 use Rattle.geometry.specs.Rings.{next}
 use Rattle.sampling.specs.State.{Quad, quadNodes, joined, padded}
 use Rattle.sampling.specs.Sample.{numbered}
 use Rattle.sampling.proofs.Stores.{sets-append, store-behind}
 use Rattle.paving.specs.Row.{rowQuads}
 
--- ---- a list q written from place `at` on
+-- ---- a list written from a place on: what is before it and what is behind it
 
-pub length-behind : {A : Type 0} (d q : List A) (at : ℕ) → at ≤ length d → length (take at d ++ q) ≡ at + length q
-length-behind d q at h = length-append (take at d) q ∙ ap (λ k. k + length q) (length-take-le at d h)
+module _ {A : Type 0} where
+  pub take-before : (ys xs : List A) (n s : ℕ) → take n (sets xs (n + s) ys) ≡ take n xs
+  take-before [] xs n s = refl
+  take-before (y ∷ ys) xs n s =
+      let e : suc (n + s) ≡ n + suc s = omega arith in
+      rw e (take-before ys (set xs (n + s) y) n (suc s)) ∙ take-set-le n xs (n + s) y (omega arith)
 
-pub taken : {A : Type 0} (d q : List A) (at : ℕ) → at + length q ≤ length d → take (at + length q) (sets d at q) ≡ take at d ++ q
-taken d q at h = rw (sets-eq q d at h) (take-at (take at d ++ q) (drop (at + length q) d) (at + length q) (length-behind d q at (omega arith)))
+  pub drop-before : (ys xs : List A) (n s : ℕ) → drop n (sets xs (n + s) ys) ≡ sets (drop n xs) s ys
+  drop-before [] xs n s = refl
+  drop-before (y ∷ ys) xs n s =
+      let e : suc (n + s) ≡ n + suc s = omega arith in
+      rw e (drop-before ys (set xs (n + s) y) n (suc s)) ∙ ap (λ t. sets t (suc s) ys) (drop-set-add n xs s y)
 
--- zeros behind it
-pub grown : {A : Type 0} (z : A) (d q : List A) (at end : ℕ) → at + length q ≤ length d → end ≡ at + length q
-    → take end (sets d at q) ++ replicate (length d - end) z ≡ padded (length d) z (take at d ++ q)
-grown z d q at end h e = rw (e, taken d q at h, length-behind d q at (omega arith))
+  drop-behind : (ys xs : List A) (n s : ℕ) → s + length ys ≤ n → drop n (sets xs s ys) ≡ drop n xs
+  drop-behind [] xs n s h = refl
+  drop-behind (y ∷ ys) xs n s h = drop-behind ys (set xs s y) n (suc s) (omega arith) ∙ drop-set-lt n xs s y (omega arith)
+
+-- ---- a buffer d that holds p and zeros behind it
+
+drop-replicate : {A : Type 0} (n k : ℕ) (z : A) → drop k (replicate n z) ≡ replicate (n - k) z
+drop-replicate n zero z = ap (λ (m : ℕ). replicate m z) (minus n)
+  where
+    minus : (n : ℕ) → n ≡ n - 0
+    minus n = omega arith
+drop-replicate zero (suc k) z = ap (λ (m : ℕ). replicate m z) (none k)
+  where
+    none : (k : ℕ) → 0 ≡ 0 - suc k
+    none k = omega arith
+drop-replicate (suc n) (suc k) z = drop-replicate n k z ∙ ap (λ (m : ℕ). replicate m z) (less n k)
+  where
+    less : (n k : ℕ) → n - k ≡ suc n - suc k
+    less n k = omega arith
+
+module _ {A : Type 0} (z : A) (d p : List A) (n at : ℕ) (clean : d ≡ padded n z p) (long : length p ≡ at) where
+  -- q written over zeros
+  over-zeros : (m : ℕ) (q : List A) → length q ≤ m → sets (replicate m z) 0 q ≡ q ++ replicate (m - length q) z
+  over-zeros m q h =
+      let w : sets (replicate m z) 0 q ≡ q ++ drop (length q) (replicate m z) = sets-eq q (replicate m z) 0 (rw (zero-add, length-replicate) h) ∙ rw zero-add in
+      w ∙ ap (λ (t : List _). q ++ t) (drop-replicate m (length q) z)
+
+  zeros-behind : drop at d ≡ replicate (n - at) z
+  zeros-behind = ap (drop at) clean ∙ drop-at p (replicate (n - length p) z) at long ∙ rw long
+
+  held : take at d ≡ p
+  held = ap (take at) clean ∙ take-at p (replicate (n - length p) z) at long
+
+  -- q behind p
+  pub extended : (q : List A) → at + length q ≤ n → sets d at q ≡ padded n z (p ++ q)
+  extended q h =
+      let t : take at (sets d at q) ≡ p = (rw (add-zero at) at (take-before q d at 0)) ∙ held in
+      let b : drop at (sets d at q) ≡ q ++ replicate (n - at - length q) z = (rw (add-zero at) at (drop-before q d at 0)) ∙ rw zeros-behind (over-zeros (n - at) q (omega arith)) in
+      let l = length-append p q in
+      let m : n - at - length q ≡ n - length (p ++ q) = omega arith in
+      sym (take-append-drop at (sets d at q)) ∙ rw (t, b, m) (sym (append-assoc p q (replicate (n - length (p ++ q)) z)))
+
+  -- q within p
+  pub replaced : (q : List A) (s : ℕ) → s + length q ≤ at → sets d s q ≡ take at (sets d s q) ++ replicate (n - at) z
+  replaced q s h = sym (take-append-drop at (sets d s q)) ∙ ap (λ t. take at (sets d s q) ++ t) (drop-behind q d at s h ∙ zeros-behind)
 
 -- ---- one element a turn
 
@@ -89,11 +136,3 @@ quads-more d s s′ old at first i k a b c e hs hs′ hk ha hb hc he =
     let l : at + i * 4 ≡ at + length q = ap (λ t. at + t) (sym (length-numbers (rowQuads old first i) ∙ ap (λ t. t * 4) (length-quads old first i))) in
     let n : numbers (rowQuads old first (i + 1)) ≡ q ++ (a ∷ b ∷ c ∷ e ∷ []) = rw (add-one, numbers-append, ha, hb, hc, he, hk) in
     hs′ ∙ rw (hs, l) (sym (sets-append q (a ∷ b ∷ c ∷ e ∷ []) d at)) ∙ ap (λ t. sets d at t) (sym n)
-
--- ---- zeros from a place on: a part that was lent to be cleared is back
-
-pub cleared : {A : Type 0} (z : A) (xs ys : List A) (a : ℕ) → a ≤ length xs → ys ≡ replicate (length (midOf a (length xs - a) xs)) z
-    → putMid a (length xs - a) xs ys ≡ take a xs ++ replicate (length xs - a) z
-cleared z xs ys a h e =
-    let l : length (midOf a (length xs - a) xs) ≡ length xs - a = length-take-le (length xs - a) (drop a xs) (simp length-drop (omega arith)) in
-    rw (e, l, post-is a (length xs) xs h, drop-length, append-nil)

@@ -1,9 +1,10 @@
 pub mod Growing
 pub mod Reading
+pub mod Repeating
+pub mod Fitting
+pub mod Zeros
 pub mod Writing
 pub mod Agreeing
 pub mod Stepping
-pub mod Repeating
 pub mod Sounding
 pub mod Calling
-pub mod Fitting

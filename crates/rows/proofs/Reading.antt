@@ -1,6 +1,6 @@
 -- What is read from buffers whose lengths and counts are within the limits.
 use mathlib.Core.Path.{_≡_, refl, _∙_, ap}
-use mathlib.Core.List.{List, [], _∷_}
+use mathlib.Core.List.{List, [], _∷_, map}
 use Prim.Native.Nat.{ℕ, zero, suc, _*_, _≤_}
 use native.Mathlib.Omega.{arith}
 use lib.ListN.{length, take, drop}
@@ -8,7 +8,7 @@ use lib.Seq.{length-take-le}
 use Rattle.geometry.specs.Domain.{pairs}
 use Rattle.sampling.specs.State.{Lent, joined, quadsOf, countAt, nodes, reading}
 use Rattle.rows.specs.Sound.{Sound, sizesOf}
-use Rattle.candidate.proofs.Cutting.{joined-cut, length-cut}
+use Rattle.candidate.proofs.Cutting.{joined-cut, length-cut, lengths-cut}
 use Rattle.rows.proofs.Growing.{numbers}
 
 pub numbers-quadsOf : (n : ℕ) (xs : List ℕ) → n * 4 ≤ length xs → numbers (quadsOf n xs) ≡ take (n * 4) xs
@@ -91,6 +91,10 @@ module _ (b : Lent) (c : Counted b) where
   pub fronts-read : length (reading b .fronts) ≡ countAt b 2
   unfolding reading
   fronts-read = length-cut (sizesOf b) (b .frontNodes) ∙ sizes-long
+
+  pub sizes-read : map length (reading b .fronts) ≡ sizesOf b
+  unfolding reading
+  sizes-read = lengths-cut (sizesOf b) (b .frontNodes) fits
 
   pub quad-nodes-read : numbers (reading b .quads) ≡ take (countAt b 1 * 4) (b .quads)
   unfolding reading

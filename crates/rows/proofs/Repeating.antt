@@ -83,39 +83,39 @@ unfolding repeated
 repeated-stays [] ys h = absurd (true≢false (sym h))
 repeated-stays (x ∷ xs) ys h = or-mono (member x xs) (repeated xs) (member x (xs ++ ys)) (repeated (xs ++ ys)) (member-stays x xs ys) (repeated-stays xs ys) h
 
--- the marks after i numbers
-pub record Marked (l : List ℕ) (i : ℕ) (met : List Bool) : Type 0 where
-  pub long : length met ≡ 4096
-  pub marks : (k : ℕ) → k < 4096 → getD met k false ≡ member k (take i l)
+-- the marks after i numbers, all below m
+pub record Marked (m : ℕ) (l : List ℕ) (i : ℕ) (met : List Bool) : Type 0 where
+  pub long : length met ≡ m
+  pub marks : (k : ℕ) → k < m → getD met k false ≡ member k (take i l)
   pub single : repeated (take i l) ≡ false
 
-pub none-marked : (l : List ℕ) → Marked l 0 (replicate 4096 false)
+pub none-marked : (m : ℕ) (l : List ℕ) (met : List Bool) → met ≡ replicate m false → Marked m l 0 met
 unfolding member repeated
-none-marked l = record { long = length-replicate 4096 false; marks = λ k h. getD-replicate 4096 k false false h; single = refl }
+none-marked m l met e = record { long = rw e (length-replicate m false); marks = λ k h. rw e (getD-replicate m k false false h); single = refl }
 
-module _ (l : List ℕ) (i x : ℕ) (met : List Bool) (m : Marked l i met) (h : i < length l) (e : x ≡ getD l i 0) (below : x < 4096) where
+module _ (m : ℕ) (l : List ℕ) (i x : ℕ) (met : List Bool) (marked : Marked m l i met) (h : i < length l) (e : x ≡ getD l i 0) (below : x < m) where
   next-taken : take (i + 1) l ≡ take i l ++ (x ∷ [])
   next-taken = rw (add-one, e) (take-suc l i 0 h)
 
   -- a number that is marked stands twice
   pub met-before : getD met x false ≡ true → true ≡ repeated l
   met-before g =
-      let t : repeated (take i l ++ (x ∷ [])) ≡ true = repeated-more x (take i l) ∙ rw (← m .marks x below, g) (or-true (repeated (take i l))) in
+      let t : repeated (take i l ++ (x ∷ [])) ≡ true = repeated-more x (take i l) ∙ rw (← marked .marks x below, g) (or-true (repeated (take i l))) in
       sym (rw (next-taken′, take-append-drop) at (repeated-stays (take i l ++ (x ∷ [])) (drop (i + 1) l) t))
     where
       next-taken′ : take i l ++ (x ∷ []) ≡ take (i + 1) l
       next-taken′ = sym next-taken
 
-  pub mark : getD met x false ≡ false → Marked l (i + 1) (set met x true)
+  pub mark : getD met x false ≡ false → Marked m l (i + 1) (set met x true)
   mark g = record {
-    long = length-set met x true ∙ m .long;
-    marks = λ k b. rw next-taken (marked k b (ℕ-discrete k x));
-    single = rw (next-taken, repeated-more x (take i l), m .single, ← m .marks x below, g);
+    long = length-set met x true ∙ marked .long;
+    marks = λ k b. rw next-taken (one k b (ℕ-discrete k x));
+    single = rw (next-taken, repeated-more x (take i l), marked .single, ← marked .marks x below, g);
   }
     where
-      marked : (k : ℕ) → k < 4096 → Dec (k ≡ x) → getD (set met x true) k false ≡ member k (take i l ++ (x ∷ []))
-      marked k b (yes f) = rw (f, getD-set-same met x true false (rw (m .long) below), member-more x x (take i l), eq-eqb x x refl) (sym (or-true (member x (take i l))))
-      marked k b (no f) = getD-set-other met x k true false f ∙ m .marks k b ∙ sym (member-more k x (take i l) ∙ rw (ne-eqb k x f) (or-no (member k (take i l))))
+      one : (k : ℕ) → k < m → Dec (k ≡ x) → getD (set met x true) k false ≡ member k (take i l ++ (x ∷ []))
+      one k b (yes f) = rw (f, getD-set-same met x true false (rw (marked .long) below), member-more x x (take i l), eq-eqb x x refl) (sym (or-true (member x (take i l))))
+      one k b (no f) = getD-set-other met x k true false f ∙ marked .marks k b ∙ sym (member-more k x (take i l) ∙ rw (ne-eqb k x f) (or-no (member k (take i l))))
 
-pub all-marked : (l : List ℕ) (i : ℕ) (met : List Bool) → Marked l i met → length l ≤ i → false ≡ repeated l
-all-marked l i met m h = sym (rw (take-all i l h) at (m .single))
+pub all-marked : (m : ℕ) (l : List ℕ) (i : ℕ) (met : List Bool) → Marked m l i met → length l ≤ i → false ≡ repeated l
+all-marked m l i met marked h = sym (rw (take-all i l h) at (marked .single))

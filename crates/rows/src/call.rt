@@ -6,17 +6,16 @@ ghost use Rattle.geometry.specs.Domain.{pairs};
 ghost use Rattle.sampling.specs.State.{reading};
 ghost use Rattle.sampling.specs.Call.{answer, job, lent};
 ghost use Rattle.paving.specs.Row.{nextRow};
-ghost use Rattle.rows.specs.Sound.{Sound};
+ghost use Rattle.rows.specs.Sound.{Clean, Sound};
 ghost use Rattle.paving.specs.RowCall.{kept, rowCall};
 use crate::given::wrong_state;
 use crate::laying::count;
-use crate::laying::lay_row;
-use candidate::row_number;
-use geometry::wide;
+use crate::step::row_on;
 use sampling::Options;
 
-// A row on front `li` of a state whose buffers are sound: its number, 0 when it is laid. A refused row leaves everything as it
-// was. Whoever lays row after row calls this for each, without the test of the whole state.
+// A row on front `li` of a state whose buffers are sound and clean: its number, 0 when it is laid, and the buffers are clean
+// again. A refused row leaves everything as it was. Whoever lays row after row calls this for each: it tests nothing of the
+// state but the row, and writes nothing but the row.
 pub fn next_row(
     coords: &[f64],
     loop_lengths: &[u16],
@@ -30,43 +29,26 @@ pub fn next_row(
     counts: &mut [u64],
 ) -> u32
     requires { ⌜ Sound (lent (now points) (now quads) (now «front_nodes») (now «front_lengths») (now counts)) ⌝ }
+    requires { ⌜ Clean (lent (now points) (now quads) (now «front_nodes») (now «front_lengths») (now counts)) ⌝ }
     requires { ⌜ (li < getD (now counts) 2 0) × (pairs (now «loop_lengths») * 2 ≤ length (now coords)) ⌝ }
     ensures { λ r. ⌜ answer r (lent (now (points .exit)) (now (quads .exit)) (now («front_nodes» .exit)) (now («front_lengths» .exit)) (now (counts .exit)))
         ≡ kept (lent (now (points .entry)) (now (quads .entry)) (now («front_nodes» .entry)) (now («front_lengths» .entry)) (now (counts .entry)))
         (nextRow (job (now (coords .entry)) (now («loop_lengths» .entry)) h options)
         (reading (lent (now (points .entry)) (now (quads .entry)) (now («front_nodes» .entry)) (now («front_lengths» .entry)) (now (counts .entry)))) li) ⌝ }
 {
-    let first = count(counts[0]);
-    let laid = count(counts[1]);
-    let fronts = count(counts[2]);
-    let end = first * 2;
-    let mut row = [0.0; 4096];
-    let number = row_number(
+    row_on(
         coords,
         loop_lengths,
         h,
         options,
-        &points[..end],
-        front_nodes,
-        &front_lengths[..fronts],
-        laid,
         li,
-        &mut row,
-    );
-    if number != 0 {
-        return number;
-    }
-    let m = wide(front_lengths[li]) * 2;
-    lay_row(
         points,
         quads,
         front_nodes,
         front_lengths,
         counts,
-        li,
-        &row[..m],
-    );
-    0
+        true,
+    )
 }
 
 // The row call. Numbers 1 to 6 for the job, 25 for the state, 20, 22 and 21, in that order; 0 when the row is laid. No refusal
@@ -107,7 +89,7 @@ pub fn row(
     if counts[2] <= front {
         return 20;
     }
-    next_row(
+    row_on(
         coords,
         loop_lengths,
         h,
@@ -118,5 +100,6 @@ pub fn row(
         front_nodes,
         front_lengths,
         counts,
+        false,
     )
 }

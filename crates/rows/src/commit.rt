@@ -1,11 +1,10 @@
-// An accepted row written into the lent buffers, with zeros behind.
+// An accepted row's points, quads and new front, each written into its buffer.
 ghost use mathlib.Core.Path.{_≡_};
-ghost use mathlib.Core.List.{[], _++_, _∷_, map};
-ghost use Prim.Native.Nat.{_*_, _+_, _-_, _<_, _≤_};
-ghost use lib.ListN.{length, replicate, take};
+ghost use mathlib.Core.List.{[], _∷_, map};
+ghost use Prim.Native.Nat.{_*_, _+_, _<_, _≤_};
+ghost use lib.ListN.{length};
 ghost use lib.Seq.{sets};
-ghost use Rattle.float.specs.Helpers.{decimal};
-ghost use Rattle.sampling.specs.State.{joined, padded, quadNodes};
+ghost use Rattle.sampling.specs.State.{joined, quadNodes};
 ghost use Rattle.sampling.specs.Sample.{numbered};
 ghost use Rattle.paving.specs.Row.{rowQuads};
 
@@ -16,25 +15,9 @@ fn narrow(n: usize) -> u16
     n as u16
 }
 
-// ---- zeros from a place on
-
-fn clear_points(points: &mut [f64], from: usize)
-    requires { ⌜ from ≤ length (now points) ⌝ }
-    ensures { λ _. ⌜ now (points .exit) ≡ take from (now (points .entry)) ++ replicate (length (now (points .entry)) - from) (decimal 0 0) ⌝ }
-{
-    sampling::clear_floats(&mut points[from..]);
-}
-
-pub fn clear_nodes(s: &mut [u16], from: usize)
-    requires { ⌜ from ≤ length (now s) ⌝ }
-    ensures { λ _. ⌜ now (s .exit) ≡ take from (now (s .entry)) ++ replicate (length (now (s .entry)) - from) 0 ⌝ }
-{
-    sampling::clear_nodes(&mut s[from..]);
-}
-
 // ---- points
 
-fn copy_points(points: &mut [f64], at: usize, row: &[f64])
+pub fn copy_points(points: &mut [f64], at: usize, row: &[f64])
     requires { ⌜ at + length (now row) ≤ length (now points) ⌝ }
     ensures { λ _. ⌜ now (points .exit) ≡ sets (now (points .entry)) at (now (row .entry)) ⌝ }
 {
@@ -43,15 +26,6 @@ fn copy_points(points: &mut [f64], at: usize, row: &[f64])
         points[at + i] = row[i];
         i += 1;
     }
-}
-
-// The first `at` numbers stay, `row` follows, and zeros behind.
-pub fn append_points(points: &mut [f64], at: usize, row: &[f64])
-    requires { ⌜ at + length (now row) ≤ length (now points) ⌝ }
-    ensures { λ _. ⌜ now (points .exit) ≡ padded (length (now (points .entry))) (decimal 0 0) (take at (now (points .entry)) ++ now (row .entry)) ⌝ }
-{
-    copy_points(points, at, row);
-    clear_points(points, at + row.len());
 }
 
 // ---- quads
@@ -67,7 +41,7 @@ fn put_quad(quads: &mut [u16], at: usize, a: u16, b: u16, c: u16, d: u16)
 }
 
 // The quads of a row on the nodes `old`, from place `at` on; the new nodes are numbered from `first`.
-fn put_row_quads(quads: &mut [u16], at: usize, old: &[u16], first: usize)
+pub fn put_row_quads(quads: &mut [u16], at: usize, old: &[u16], first: usize)
     requires { ⌜ (at + length (now old) * 4 ≤ length (now quads)) × (first + length (now old) ≤ 4096) ⌝ }
     ensures { λ _. ⌜ now (quads .exit) ≡ sets (now (quads .entry)) at (joined (map quadNodes (rowQuads (now (old .entry)) first (length (now (old .entry)))))) ⌝ }
 {
@@ -80,32 +54,14 @@ fn put_row_quads(quads: &mut [u16], at: usize, old: &[u16], first: usize)
     }
 }
 
-// The first `at` numbers stay, the row's quads follow, and zeros behind.
-pub fn append_quads(quads: &mut [u16], at: usize, old: &[u16], first: usize)
-    requires { ⌜ (at + length (now old) * 4 ≤ length (now quads)) × (first + length (now old) ≤ 4096) ⌝ }
-    ensures { λ _. ⌜ now (quads .exit) ≡ padded (length (now (quads .entry))) 0 (take at (now (quads .entry)) ++ joined (map quadNodes (rowQuads (now (old .entry)) first (length (now (old .entry)))))) ⌝ }
-{
-    put_row_quads(quads, at, old, first);
-    clear_nodes(quads, at + old.len() * 4);
-}
-
 // ---- the front
 
 // The nodes from place `start` on become `n` numbers from `first` on.
-fn put_numbers(nodes: &mut [u16], start: usize, n: usize, first: usize)
+pub fn put_numbers(nodes: &mut [u16], start: usize, n: usize, first: usize)
     requires { ⌜ (start + n ≤ length (now nodes)) × (first + n ≤ 4096) ⌝ }
     ensures { λ _. ⌜ now (nodes .exit) ≡ sets (now (nodes .entry)) start (numbered first n) ⌝ }
 {
     for i in 0..n {
         nodes[start + i] = narrow(first + i);
     }
-}
-
-// The new front in the place of the old one, and zeros behind the `total` nodes of all fronts.
-pub fn renumber(nodes: &mut [u16], start: usize, n: usize, first: usize, total: usize)
-    requires { ⌜ (start + n ≤ total) × (total ≤ length (now nodes)) × (first + n ≤ 4096) ⌝ }
-    ensures { λ _. ⌜ now (nodes .exit) ≡ take total (sets (now (nodes .entry)) start (numbered first n)) ++ replicate (length (now (nodes .entry)) - total) 0 ⌝ }
-{
-    put_numbers(nodes, start, n, first);
-    clear_nodes(nodes, total);
 }

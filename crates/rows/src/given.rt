@@ -1,11 +1,11 @@
 // A state given back to a call: number 25. The test is linear in the state's size.
 ghost use mathlib.Core.Path.{_≡_};
-ghost use mathlib.Core.Bool.{not, _||_};
+ghost use mathlib.Core.Bool.{false, not, _||_};
 ghost use mathlib.Core.List.{List, _++_};
 ghost use Prim.Native.Nat.{ℕ, _*_, _+_, _<_, _≤_};
 ghost use lib.Dec.{eqb, ltb};
 ghost use lib.Ieee.{Float};
-ghost use lib.ListN.{getD, length};
+ghost use lib.ListN.{getD, length, replicate};
 ghost use Rattle.sampling.specs.State.{lengths};
 ghost use Rattle.sampling.specs.Call.{lent, lengthsOf};
 ghost use Rattle.paving.specs.Given.{repeated, someBelow, someFrom, wrongCounts, wrongState};
@@ -40,12 +40,12 @@ fn some_below(n: usize, sizes: &[u16]) -> bool
     false
 }
 
-// Some node number stands twice: each is marked when it is met first.
-fn repeats(nodes: &[u16]) -> bool
-    requires { ⌜ ((i : ℕ) → i < length (now nodes) → getD (now nodes) i 0 < 4096) ⌝ }
+// Some node number stands twice: each is marked in `met` when it is met first.
+fn repeats_by(met: &mut [bool], nodes: &[u16]) -> bool
+    requires { ⌜ now met ≡ replicate (length (now met)) false ⌝ }
+    requires { ⌜ ((i : ℕ) → i < length (now nodes) → getD (now nodes) i 0 < length (now met)) ⌝ }
     ensures { λ r. ⌜ r ≡ repeated (now (nodes .entry)) ⌝ }
 {
-    let mut met = [false; 4096];
     let mut i = 0usize;
     while i < nodes.len() {
         let node = wide(nodes[i]);
@@ -56,6 +56,19 @@ fn repeats(nodes: &[u16]) -> bool
         i += 1;
     }
     false
+}
+
+// The same for numbers below `n`. Most states have few points, and fewer marks are made sooner.
+fn repeats(n: usize, nodes: &[u16]) -> bool
+    requires { ⌜ (n ≤ 4096) × ((i : ℕ) → i < length (now nodes) → getD (now nodes) i 0 < n) ⌝ }
+    ensures { λ r. ⌜ r ≡ repeated (now (nodes .entry)) ⌝ }
+{
+    if n <= 256 {
+        let mut met = [false; 256];
+        return repeats_by(&mut met, nodes);
+    }
+    let mut met = [false; 4096];
+    repeats_by(&mut met, nodes)
 }
 
 // A node number of a quad or a front is not below the `n` points, or a front node is repeated.
@@ -69,7 +82,7 @@ fn wrong_nodes(n: usize, quads: &[u16], nodes: &[u16]) -> bool
     if some_from(n, nodes) {
         return true;
     }
-    repeats(nodes)
+    repeats(n, nodes)
 }
 
 // The counts do not fit together. No sum or product here can wrap.

@@ -3,12 +3,11 @@ ghost use mathlib.Core.Path.{_≡_};
 ghost use lib.ListN.{length};
 ghost use Rattle.sampling.specs.State.{reading, written};
 ghost use Rattle.sampling.specs.Call.{lent};
-ghost use Rattle.rows.specs.Sound.{Room, Sound};
+ghost use Rattle.rows.specs.Sound.{Clean, Room, Sound};
 ghost use Rattle.candidate.specs.Candidate.{laidOn};
-use crate::commit::append_points;
-use crate::commit::append_quads;
-use crate::commit::clear_nodes;
-use crate::commit::renumber;
+use crate::commit::copy_points;
+use crate::commit::put_numbers;
+use crate::commit::put_row_quads;
 use candidate::front_at;
 use candidate::nodes_of;
 
@@ -18,20 +17,21 @@ pub fn count(n: u64) -> usize
     n as usize
 }
 
-// Writes the state with the new points `row` on front `li`: the row's points and quads behind the others, the new front in
-// the old one's place, and the counts.
+// Writes the new points `row` on front `li`: the row's points and quads behind the others, the new front in the old one's
+// place, and the counts. Nothing else of the state changes, and the zeros behind it stand.
 pub fn lay_row(
     points: &mut [f64],
     quads: &mut [u16],
     front_nodes: &mut [u16],
-    front_lengths: &mut [u16],
+    front_lengths: &[u16],
     counts: &mut [u64],
     li: usize,
     row: &[f64],
 )
     requires { ⌜ Sound (lent (now points) (now quads) (now «front_nodes») (now «front_lengths») (now counts)) ⌝ }
+    requires { ⌜ Clean (lent (now points) (now quads) (now «front_nodes») (now «front_lengths») (now counts)) ⌝ }
     requires { ⌜ Room (lent (now points) (now quads) (now «front_nodes») (now «front_lengths») (now counts)) li (length (now row)) ⌝ }
-    ensures { λ _. ⌜ lent (now (points .exit)) (now (quads .exit)) (now («front_nodes» .exit)) (now («front_lengths» .exit)) (now (counts .exit)) ≡ written (laidOn (reading (lent (now (points .entry)) (now (quads .entry)) (now («front_nodes» .entry)) (now («front_lengths» .entry)) (now (counts .entry)))) li (now (row .entry))) ⌝ }
+    ensures { λ _. ⌜ lent (now (points .exit)) (now (quads .exit)) (now («front_nodes» .exit)) (now («front_lengths» .entry)) (now (counts .exit)) ≡ written (laidOn (reading (lent (now (points .entry)) (now (quads .entry)) (now («front_nodes» .entry)) (now («front_lengths» .entry)) (now (counts .entry)))) li (now (row .entry))) ⌝ }
 {
     let first = count(counts[0]);
     let laid = count(counts[1]);
@@ -39,11 +39,9 @@ pub fn lay_row(
     let front = front_at(&front_lengths[..fronts], li);
     let start = front.start;
     let n = front.len;
-    let total = sampling::pairs_of(&front_lengths[..fronts]);
-    append_points(points, first * 2, row);
-    append_quads(quads, laid * 4, nodes_of(front_nodes, start, n), first);
-    renumber(front_nodes, start, n, first, total);
-    clear_nodes(front_lengths, fronts);
+    copy_points(points, first * 2, row);
+    put_row_quads(quads, laid * 4, nodes_of(front_nodes, start, n), first);
+    put_numbers(front_nodes, start, n, first);
     let row_quads = counts[3] + n as u64;
     let core_quads = counts[4];
     let row_rounds = counts[5] + 1;

@@ -2,7 +2,7 @@
 use mathlib.Core.Path.{_≡_, refl, sym, ap, _∙_}
 use mathlib.Core.Bool.{Bool, true, false, cond, _&&_}
 use mathlib.Core.List.{List, [], _∷_, _++_}
-use Prim.Native.Nat.{ℕ, zero, suc, pred, _+_, _-_, _*_, _/_, _≤_, _<_}
+use Prim.Native.Nat.{ℕ, zero, suc, _+_, _-_, _*_, _/_, _≤_, _<_}
 use native.Mathlib.Numerals.{add-one, sub-one}
 use native.Mathlib.Omega.{arith}
 use lib.ListN.{length, getD, set, length-append}
@@ -14,7 +14,7 @@ use Rattle.geometry.specs.declared.Point.{Point}
 use Rattle.geometry.specs.Rings.{Ring, pointAt}
 use Rattle.sampling.specs.Loop.{close, kept, unclosed}
 use Rattle.sampling.specs.Kept.{closeToLast}
-use Rattle.sampling.proofs.Stores.{front-at, point-behind}
+use Rattle.sampling.proofs.Stores.{front-at, point-behind, set-back}
 
 -- ---- dropping
 
@@ -51,6 +51,17 @@ pub keep-step : (r : Ring) (d s s' : List Float) (k m m' : ℕ) (p : Point) → 
     → (m' * 2 ≡ length (kept r (k + 1))) × (s' ≡ sets d 0 (kept r (k + 1))) × (m' ≤ m + 1)
 keep-step r d s s' k m m' p l e fits hp hm hs =
     rw (kept-suc r k p hp, ← (same-test d (kept r k) s m p (omega arith) e l)) (put (closeToLast s m p) d (kept r k) s s' m m' p e l hm hs)
+
+-- all points kept so far: the coordinates begin with them already
+pub apart-step : (r : Ring) (d : List Float) (k : ℕ) (p : Point) (b : Bool) → k * 2 ≡ length (kept r k) → d ≡ sets d 0 (kept r k) → k * 2 ≤ length d
+    → p ≡ r .at k → p ≡ pointAt d k → b ≡ closeToLast d k p → b ≡ false
+    → ((k + 1) * 2 ≡ length (kept r (k + 1))) × (d ≡ sets d 0 (kept r (k + 1))) × (k + 1 ≤ k + 1)
+apart-step r d k p b l e fits hp hd hb f =
+    let t : closeToLast d k p ≡ false = sym hb ∙ f in
+    keep-step r d d d k k (k + 1) p l e fits hp (rw t) (rw (t, hd) (sym (same d k)))
+  where
+    same : (d : List Float) (k : ℕ) → set (set d (k * 2) (getD d (k * 2) nan)) (k * 2 + 1) (getD d (k * 2 + 1) nan) ≡ d
+    same d k = rw (set-back d (k * 2) nan) (set-back d (k * 2 + 1) nan)
 
 -- ---- popping
 

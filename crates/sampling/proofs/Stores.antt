@@ -2,12 +2,13 @@
 use mathlib.Core.Path.{_≡_, refl, sym, ap, _∙_}
 use mathlib.Core.List.{List, [], _∷_, _++_, append-nil}
 use Prim.Native.Nat.{ℕ, zero, suc, _+_, _-_, _≤_, _<_}
-use native.Mathlib.Nat.{zero-add, add-zero, add-suc, suc-add, le-of-eq, le-refl}
+use native.Mathlib.Nat.{zero-add, add-zero, add-suc, suc-add, le-of-eq}
 use native.Mathlib.Numerals.{add-one}
 use native.Mathlib.Omega.{arith}
-use lib.ListN.{length, getD, take, drop, set, replicate, length-replicate, length-drop, List·getD-append, drop-of-length-le}
+use lib.ListN.{length, getD, take, drop, set, replicate, List·getD-append, drop-of-length-le}
 use lib.Seq.{sets, sets-eq, take-append-seam, getD-set-same, getD-set-other}
 use borrow.Author.Count.{below-more}
+use Rattle.sampling.specs.State.{padded}
 
 -- one list behind another
 pub sets-append : {A : Type 0} (vs ws l : List A) (i : ℕ) → sets l i (vs ++ ws) ≡ sets (sets l i vs) (i + length vs) ws
@@ -29,24 +30,6 @@ module _ {A : Type 0} (d q : List A) (fits : length q ≤ length d) where
 pub sets-all : {A : Type 0} (d q : List A) → length d ≡ length q → sets d 0 q ≡ q
 sets-all d q e = front d q (le-of-eq (sym e)) ∙ rw (drop-of-length-le d (le-of-eq e)) (append-nil q)
 
-drop-replicate : {A : Type 0} (n k : ℕ) (z : A) → drop k (replicate n z) ≡ replicate (n - k) z
-drop-replicate n zero z = ap (λ (m : ℕ). replicate m z) (minus n)
-  where
-    minus : (n : ℕ) → n ≡ n - 0
-    minus n = omega arith
-drop-replicate zero (suc k) z = ap (λ (m : ℕ). replicate m z) (none k)
-  where
-    none : (k : ℕ) → 0 ≡ 0 - suc k
-    none k = omega arith
-drop-replicate (suc n) (suc k) z = drop-replicate n k z ∙ ap (λ (m : ℕ). replicate m z) (less n k)
-  where
-    less : (n k : ℕ) → n - k ≡ suc n - suc k
-    less n k = omega arith
-
--- a buffer of zeros written from its front: zeros behind
-pub front-zeros : {A : Type 0} (n : ℕ) (z : A) (q : List A) → length q ≤ n → sets (replicate n z) 0 q ≡ q ++ replicate (n - length q) z
-front-zeros n z q h = front (replicate n z) q (rw length-replicate h) ∙ ap (λ (t : List _). q ++ t) (drop-replicate n (length q) z)
-
 -- one more element, and one more point, behind what is written from place a on
 pub store-behind : {A : Type 0} (d q s : List A) (a k : ℕ) (v : A) → s ≡ sets d a q → k ≡ a + length q → set s k v ≡ sets d a (q ++ (v ∷ []))
 store-behind d q s a k v e h = sym (sets-append q (v ∷ []) d a ∙ rw (← e, ← h))
@@ -58,6 +41,11 @@ point-behind d q s a k x y e h = sym (sets-append q (x ∷ y ∷ []) d a ∙ rw 
 pub front-part : {A : Type 0} (d q s : List A) (n : ℕ) → n ≤ length d → n ≡ length q → s ≡ sets d 0 q → take n s ≡ q
 front-part d q s n h l e = rw (e, l) (front-take d q (rw l at h))
 
+-- and zeros behind it
+pub front-padded : {A : Type 0} (z : A) (d q s t : List A) (n k : ℕ) → k ≤ length d → k ≡ length q → s ≡ sets d 0 q → length s ≡ n
+    → t ≡ take k s ++ replicate (length s - k) z → t ≡ padded n z q
+front-padded z d q s t n k h l e m f = f ∙ rw (front-part d q s k h l e, m, l)
+
 -- a table filled place by place
 pub table-step : {A : Type 0} (l : List A) (z : A) (f : ℕ → A) (i : ℕ) (v : A) → i < length l → ((k : ℕ) → k < i → getD l k z ≡ f k) → v ≡ f i
     → (k : ℕ) → k < i + 1 → getD (set l i v) k z ≡ f k
@@ -67,3 +55,20 @@ table-step l z f i v h below e =
   where
     clash : (k i : ℕ) → k < i → k ≡ i → ⊥
     clash k i g q = omega arith
+
+-- the places of a table that are not yet filled
+pub table-rest : {A : Type 0} (l : List A) (z : A) (f : ℕ → A) (i n : ℕ) (v : A) → ((k : ℕ) → i ≤ k → k < n → getD l k z ≡ f k)
+    → (k : ℕ) → i + 1 ≤ k → k < n → getD (set l i v) k z ≡ f k
+table-rest l z f i n v rest k h g = getD-set-other l i k v z (λ (q : k ≡ i). clash k i h q) ∙ rest k (less i k h) g
+  where
+    clash : (k i : ℕ) → i + 1 ≤ k → k ≡ i → ⊥
+    clash k i h q = omega arith
+
+    less : (i k : ℕ) → i + 1 ≤ k → i ≤ k
+    less i k h = omega arith
+
+-- a place written with what it holds
+pub set-back : {A : Type 0} (l : List A) (i : ℕ) (z : A) → set l i (getD l i z) ≡ l
+set-back [] i z = refl
+set-back (x ∷ l) zero z = refl
+set-back (x ∷ l) (suc i) z = ap (λ (t : List _). x ∷ t) (set-back l i z)

@@ -1,25 +1,22 @@
 -- A turned loop read backwards, and its corners.
-use mathlib.Core.Path.{_≡_, refl, sym, ap, _∙_}
+use mathlib.Core.Path.{_≡_, refl}
 use mathlib.Core.Bool.{Bool, true, false, not, cond, Bool·beq}
 use mathlib.Core.List.{List}
 use Prim.Native.Nat.{ℕ, _*_, _/_}
 use native.Mathlib.Omega.{arith}
-use lib.ListN.{length, take}
-use lib.Seq.{sets}
+use lib.ListN.{length}
 use lib.Ieee.{Float, lt}
 use Rattle.float.specs.Helpers.{decimal}
-use Rattle.geometry.specs.F64.{_⊕_, _⊖_, _⊗_}
 use Rattle.geometry.specs.declared.Point.{Point}
 use Rattle.geometry.specs.Rings.{Ring, ringOf, next, prev}
-use Rattle.geometry.specs.Measures.{sharpAt, sharpTurn, signedArea}
+use Rattle.geometry.specs.Measures.{toward, cross, dot, sharpAt, sharpTurn, signedArea}
 use Rattle.sampling.specs.Loop.{kept, unclosed, turned, loopRing}
 use Rattle.sampling.specs.Backwards.{turnedIf}
 
-pub sharp-step : (r : Ring) (i h j : ℕ) (a b c : Point) (t : Bool) → h ≡ prev (r .size) i → j ≡ next (r .size) i → a ≡ r .at h → b ≡ r .at i → c ≡ r .at j
-    → t ≡ sharpTurn ((b .x ⊖ a .x) ⊗ (c .y ⊖ b .y) ⊖ (b .y ⊖ a .y) ⊗ (c .x ⊖ b .x)) ((b .x ⊖ a .x) ⊗ (c .x ⊖ b .x) ⊕ (b .y ⊖ a .y) ⊗ (c .y ⊖ b .y))
-    → t ≡ sharpAt r i
+pub sharp-step : (r : Ring) (i h j : ℕ) (a b c d e : Point) (t : Bool) → h ≡ prev (r .size) i → j ≡ next (r .size) i → a ≡ r .at h → b ≡ r .at i → c ≡ r .at j
+    → d ≡ toward a b → e ≡ toward b c → t ≡ sharpTurn (cross d e) (dot d e) → t ≡ sharpAt r i
 unfolding sharpAt
-sharp-step r i h j a b c t hh hj ha hb hc ht = rw (ht, ha, hb, hc, hh, hj)
+sharp-step r i h j a b c d e t hh hj ha hb hc hd he ht = rw (ht, hd, he, ha, hb, hc, hh, hj)
 
 turn-back : (ccw b : Bool) (r : Ring) → b ≡ not (Bool·beq (lt (decimal 0 0) (signedArea r)) ccw) → turned ccw r ≡ turnedIf b r
 unfolding turned

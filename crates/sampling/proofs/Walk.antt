@@ -1,8 +1,8 @@
 -- Loops that walk a list from the front: what the rest of the list gives, one place a turn.
-use mathlib.Core.Path.{_≡_, refl, sym, ap, _∙_}
+use mathlib.Core.Path.{_≡_, refl, _∙_}
 use mathlib.Core.Bool.{Bool, true, false, not, _||_}
-use mathlib.Core.List.{List, [], _∷_}
-use Prim.Native.Nat.{ℕ, zero, suc, _+_, _<_, _≤_}
+use mathlib.Core.List.{List}
+use Prim.Native.Nat.{ℕ, _+_, _<_, _≤_}
 use native.Mathlib.Nat.{add-assoc}
 use native.Mathlib.Numerals.{add-one}
 use lib.ListN.{length, getD, drop, drop-of-length-le}
@@ -29,12 +29,18 @@ module _ (limit : Float) where
   unfolding wrongCoordinate
   split l i d h = rw (add-one, drop-cons l i d h)
 
-  pub found : (l : List Float) (i : ℕ) (d : Float) (b : Bool) → wrongCoordinate limit (drop i l) ≡ wrongCoordinate limit l → i < length l → b ≡ (not (isFinite (getD l i d)) || lt limit (absolute (getD l i d))) → b ≡ true → true ≡ wrongCoordinate limit l
-  found l i d b e h p q = sym (sym e ∙ split l i d h ∙ ap (λ (t : Bool). t || wrongCoordinate limit (drop (i + 1) l)) (sym p ∙ q))
+  pub one-more : (l : List Float) (i : ℕ) (d : Float) (wrong b : Bool) → (wrong || wrongCoordinate limit (drop i l)) ≡ wrongCoordinate limit l → i < length l
+      → b ≡ (not (isFinite (getD l i d)) || lt limit (absolute (getD l i d))) → (wrong || b || wrongCoordinate limit (drop (i + 1) l)) ≡ wrongCoordinate limit l
+  one-more l i d wrong b e h p = go wrong ∙ rw (split l i d h, ← p) at e
+    where
+      go : (w : Bool) → (w || b || wrongCoordinate limit (drop (i + 1) l)) ≡ (w || (b || wrongCoordinate limit (drop (i + 1) l)))
+      go true = refl
+      go false = refl
 
-  pub passed : (l : List Float) (i : ℕ) (d : Float) (b : Bool) → wrongCoordinate limit (drop i l) ≡ wrongCoordinate limit l → i < length l → b ≡ (not (isFinite (getD l i d)) || lt limit (absolute (getD l i d))) → b ≡ false → wrongCoordinate limit (drop (i + 1) l) ≡ wrongCoordinate limit l
-  passed l i d b e h p q = sym (split l i d h ∙ ap (λ (t : Bool). t || wrongCoordinate limit (drop (i + 1) l)) (sym p ∙ q)) ∙ e
-
-  pub none : (l : List Float) (i : ℕ) → wrongCoordinate limit (drop i l) ≡ wrongCoordinate limit l → length l ≤ i → false ≡ wrongCoordinate limit l
+  pub none-left : (l : List Float) (i : ℕ) (wrong : Bool) → (wrong || wrongCoordinate limit (drop i l)) ≡ wrongCoordinate limit l → length l ≤ i → wrong ≡ wrongCoordinate limit l
   unfolding wrongCoordinate
-  none l i e h = rw (drop-of-length-le l h) at e
+  none-left l i wrong e h = go wrong ∙ rw (drop-of-length-le l h) at e
+    where
+      go : (w : Bool) → w ≡ (w || false)
+      go true = refl
+      go false = refl

@@ -4,6 +4,8 @@ pub mod Loop
 pub mod Sample
 pub mod Call
 pub mod Backwards
+pub mod Side
+pub mod Measured
 pub mod Kept
 pub mod Placing
 pub mod Sampled

@@ -103,10 +103,44 @@ pub fn sample_loops(
         (now («front_nodes» .entry)) (now («front_nodes» .exit)) (now («front_lengths» .entry)) (now («front_lengths» .exit)))
         × ((r .number ≡ 0 → ⊥) → samples.sampled (job (now (coords .entry)) (now («loop_lengths» .entry)) h options) ≡ jobs.refused (r .number)) ⌝ }
 {
+    if coords.len() <= 64 {
+        let mut buffer = [0.0; 64];
+        let mut lengths = [0.0; 32];
+        let mut spans = [0.0; 32];
+        return loops_in_turn(
+            coords,
+            loop_lengths,
+            h,
+            options,
+            points,
+            front_nodes,
+            front_lengths,
+            &mut buffer,
+            &mut lengths,
+            &mut spans,
+        );
+    }
     if coords.len() <= 512 {
         let mut buffer = [0.0; 512];
         let mut lengths = [0.0; 256];
         let mut spans = [0.0; 256];
+        return loops_in_turn(
+            coords,
+            loop_lengths,
+            h,
+            options,
+            points,
+            front_nodes,
+            front_lengths,
+            &mut buffer,
+            &mut lengths,
+            &mut spans,
+        );
+    }
+    if coords.len() <= 2048 {
+        let mut buffer = [0.0; 2048];
+        let mut lengths = [0.0; 1024];
+        let mut spans = [0.0; 1024];
         return loops_in_turn(
             coords,
             loop_lengths,

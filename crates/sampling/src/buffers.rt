@@ -1,7 +1,8 @@
 // The lent buffers: zeros in them, and the eight counts.
 ghost use mathlib.Core.Path.{_≡_};
-ghost use mathlib.Core.List.{[], _∷_};
-ghost use lib.ListN.{length, replicate};
+ghost use mathlib.Core.List.{[], _∷_, _++_};
+ghost use Prim.Native.Nat.{_-_, _≤_};
+ghost use lib.ListN.{length, replicate, take};
 ghost use Rattle.float.specs.Helpers.{decimal};
 ghost use Rattle.sampling.specs.State.{zeros};
 ghost use Rattle.sampling.specs.Call.{lengthsOf, lent};
@@ -36,6 +37,24 @@ pub fn clear_counts(s: &mut [u64])
         count += 1;
     }
 }
+
+// ---- zeros from a place on
+
+pub fn clear_floats_from(s: &mut [f64], from: usize)
+    requires { ⌜ from ≤ length (now s) ⌝ }
+    ensures { λ _. ⌜ now (s .exit) ≡ take from (now (s .entry)) ++ replicate (length (now (s .entry)) - from) (decimal 0 0) ⌝ }
+{
+    clear_floats(&mut s[from..]);
+}
+
+pub fn clear_nodes_from(s: &mut [u16], from: usize)
+    requires { ⌜ from ≤ length (now s) ⌝ }
+    ensures { λ _. ⌜ now (s .exit) ≡ take from (now (s .entry)) ++ replicate (length (now (s .entry)) - from) 0 ⌝ }
+{
+    clear_nodes(&mut s[from..]);
+}
+
+// ---- all five
 
 // A refused job's buffers: zeros, whatever their lengths.
 pub fn clear_all(

@@ -6,10 +6,13 @@ ghost use Rattle.sampling.specs.Call.{answer, job, lengthsOf, lent};
 use crate::Options;
 use crate::all_loops::sample_loops;
 use crate::buffers::clear_all;
+use crate::buffers::clear_floats_from;
+use crate::buffers::clear_nodes;
+use crate::buffers::clear_nodes_from;
 use crate::buffers::put_counts;
 use crate::input::input_number;
 
-// The call: numbers 1 to 10, or the sampled loops; whatever the buffers held.
+// The call: numbers 1 to 10, or the sampled loops; whatever the buffers held. Each place is written once, zeros behind the loops.
 pub fn sample(
     coords: &[f64],
     loop_lengths: &[u16],
@@ -25,7 +28,6 @@ pub fn sample(
         ≡ samples.sampleCall (job (now (coords .entry)) (now («loop_lengths» .entry)) h options)
         (lengthsOf (length (now (points .entry))) (length (now (quads .entry))) (length (now («front_nodes» .entry))) (length (now («front_lengths» .entry))) (length (now (counts .entry)))) ⌝ }
 {
-    clear_all(points, quads, front_nodes, front_lengths, counts);
     let number = input_number(
         coords,
         loop_lengths,
@@ -38,6 +40,7 @@ pub fn sample(
         counts.len(),
     );
     if number != 0 {
+        clear_all(points, quads, front_nodes, front_lengths, counts);
         return number;
     }
     let total = sample_loops(
@@ -54,6 +57,11 @@ pub fn sample(
         clear_all(points, quads, front_nodes, front_lengths, counts);
         return refused;
     }
-    put_counts(counts, total.nodes, 0, loop_lengths.len(), 0, 0, 0, 0, 0);
+    let nodes = total.nodes;
+    clear_floats_from(points, nodes * 2);
+    clear_nodes(quads);
+    clear_nodes_from(front_nodes, nodes);
+    clear_nodes_from(front_lengths, loop_lengths.len());
+    put_counts(counts, nodes, 0, loop_lengths.len(), 0, 0, 0, 0, 0);
     0
 }

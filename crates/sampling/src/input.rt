@@ -128,27 +128,30 @@ fn wrong_options(h: f64, options: Options) -> bool
     options.seam
 }
 
+// A finite limit is tested on either side: one that is not finite is then beyond it.
 fn wrong_number(limit: f64, x: f64) -> bool
     ensures { λ r. ⌜ r ≡ (not (helpers.isFinite x) || lt limit (helpers.absolute x)) ⌝ }
 {
+    if float::is_finite(limit) {
+        return outside(-limit, limit, x);
+    }
     if float::is_finite(x) {
         return limit < float::absolute(x);
     }
     true
 }
 
-// A coordinate is not finite or is over `limit` in magnitude.
+// A coordinate is not finite or is over `limit` in magnitude. No test ends the loop, so several are done at a time.
 pub fn wrong_coordinate(limit: f64, coords: &[f64]) -> bool
     ensures { λ r. ⌜ r ≡ inputs.wrongCoordinate limit (now (coords .entry)) ⌝ }
 {
+    let mut wrong = false;
     let mut i = 0usize;
     while i < coords.len() {
-        if wrong_number(limit, coords[i]) {
-            return true;
-        }
+        wrong = wrong | wrong_number(limit, coords[i]);
         i += 1;
     }
-    false
+    wrong
 }
 
 pub fn input_number(

@@ -1,20 +1,32 @@
 // Dropping and popping: a loop's points without those close to the point before.
 ghost use mathlib.Core.Path.{_≡_};
-ghost use mathlib.Core.Bool.{cond};
+ghost use mathlib.Core.Bool.{true, cond};
 ghost use Prim.Native.Nat.{_+_, _*_, _≤_, _<_};
-ghost use lib.ListN.{length, set};
+ghost use lib.Ieee.{lt};
+ghost use lib.ListN.{length, set, take};
 ghost use lib.Seq.{sets};
+ghost use Rattle.float.specs.Helpers.{absolute, decimal};
 ghost use Rattle.geometry.specs.Rings.{ringOf};
 ghost use Rattle.sampling.specs.Loop as loops;
 ghost use Rattle.sampling.specs.Kept.{closeToLast};
 use geometry::Point;
 
+// A magnitude below 1e-12, tested on either side.
+fn tiny(d: f64) -> bool
+    ensures { λ r. ⌜ r ≡ lt (absolute d) (decimal 1 12) ⌝ }
+{
+    if d < 1e-12 {
+        return -1e-12 < d;
+    }
+    false
+}
+
 // Both coordinate differences are below 1e-12.
 fn close(a: Point, b: Point) -> bool
     ensures { λ r. ⌜ r ≡ loops.close a b ⌝ }
 {
-    if float::absolute(a.x - b.x) < 1e-12 {
-        return float::absolute(a.y - b.y) < 1e-12;
+    if tiny(a.x - b.x) {
+        return tiny(a.y - b.y);
     }
     false
 }
@@ -56,6 +68,22 @@ pub fn keep(coords: &[f64], n: usize, kept: &mut [f64]) -> usize
         k += 1;
     }
     m
+}
+
+// Whether no point of the first `n` is close to the one before, so that all are kept.
+pub fn all_apart(coords: &[f64], n: usize) -> bool
+    requires { ⌜ n * 2 ≤ length (now coords) ⌝ }
+    ensures { λ r. ⌜ (r ≡ true → take (n * 2) (now (coords .entry)) ≡ loops.kept (ringOf (now (coords .entry)) n) n) ⌝ }
+{
+    let mut k = 0usize;
+    while k < n {
+        let p = geometry::point_at(coords, k);
+        if close_to_last(coords, k, p) {
+            return false;
+        }
+        k += 1;
+    }
+    true
 }
 
 // How many of the first `n` points are left when last points close to the first are popped.

@@ -9,11 +9,11 @@ mod one_loop;
 mod place;
 mod plan;
 mod ring;
+mod sides;
 
 pub use buffers::clear_all;
-pub use buffers::clear_counts;
-pub use buffers::clear_floats;
-pub use buffers::clear_nodes;
+pub use buffers::clear_floats_from;
+pub use buffers::clear_nodes_from;
 pub use buffers::put_counts;
 pub use call::sample;
 pub use input::input_number;

@@ -4,14 +4,16 @@ ghost use mathlib.Core.Bool.{cond};
 ghost use Prim.Native.Nat.{_+_, _*_, _≤_, _<_};
 ghost use lib.Dec.{eqb};
 ghost use lib.ListN as lists;
-ghost use Rattle.geometry.specs.Rings.{ringOf};
+ghost use Rattle.geometry.specs.Rings.{Ring, ringOf};
 ghost use Rattle.sampling.specs.Loop as loops;
 ghost use Rattle.sampling.specs.Backwards.{turnedIf};
 ghost use Rattle.sampling.specs.Placing.{Written, outcome, placedNumber};
 use crate::Options;
+use crate::keep::all_apart;
+use crate::keep::keep;
 use crate::place::place;
 use crate::plan::plan_sides;
-use crate::ring::loop_ring;
+use crate::ring::kept_ring;
 
 // A refusal's number, or 0 with the nodes planned and the nodes placed.
 pub struct Made {
@@ -80,8 +82,47 @@ fn plan_and_place(
     }
 }
 
+// Samples any loop of which these points are kept and writes its nodes from place `at` on.
+fn sample_kept(
+    pts: &[f64],
+    kept: usize,
+    ccw: bool,
+    h: f64,
+    options: Options,
+    before: usize,
+    lengths: &mut [f64],
+    spans: &mut [f64],
+    points: &mut [f64],
+    at: usize,
+) -> Made
+    requires { ⌜ (kept * 2 ≡ lists.length (now pts)) × (kept ≤ 2048) × (kept ≤ lists.length (now lengths)) × (kept ≤ lists.length (now spans)) ⌝ }
+    requires { ⌜ (at ≤ before) × (before ≤ 2048) × (4096 ≤ lists.length (now points)) ⌝ }
+    ensures { λ r. ⌜ ((given : Ring) → now (pts .entry) ≡ loops.kept given (given .size)
+        → (loops.sampleLoop h options before ccw given ≡ outcome (r .number) (loops.placed h options (loops.loopRing ccw given) (loops.loopRing ccw given .size)))
+        × (r .number ≡ 0 → Written h options (loops.loopRing ccw given) before at (r .planned) (r .placed) (now (points .entry)) (now (points .exit)))) ⌝ }
+{
+    let ring = kept_ring(pts, kept, ccw);
+    let size = ring.size;
+    if size < 3 {
+        return refused(7);
+    }
+    let back = ring.back;
+    plan_and_place(
+        pts,
+        size,
+        back,
+        h,
+        options,
+        before,
+        lengths,
+        spans,
+        points,
+        at,
+    )
+}
+
 // Samples the loop of the first `n` points, where `before` nodes were planned for the loops before, and writes its
-// nodes from place `at` on. `buffer`, `lengths` and `spans` are for the work.
+// nodes from place `at` on. `buffer`, `lengths` and `spans` are for the work; a loop that keeps all its points needs no copy.
 pub fn sample_loop(
     coords: &[f64],
     n: usize,
@@ -101,17 +142,27 @@ pub fn sample_loop(
         ≡ outcome (r .number) (loops.placed h options (loops.loopRing ccw (ringOf (now (coords .entry)) n)) (loops.loopRing ccw (ringOf (now (coords .entry)) n) .size)))
         × (r .number ≡ 0 → Written h options (loops.loopRing ccw (ringOf (now (coords .entry)) n)) before at (r .planned) (r .placed) (now (points .entry)) (now (points .exit))) ⌝ }
 {
-    let ring = loop_ring(coords, n, ccw, buffer);
-    let size = ring.size;
-    if size < 3 {
-        return refused(7);
+    if all_apart(coords, n) {
+        let end = n * 2;
+        return sample_kept(
+            &coords[..end],
+            n,
+            ccw,
+            h,
+            options,
+            before,
+            lengths,
+            spans,
+            points,
+            at,
+        );
     }
-    let end = ring.kept * 2;
-    let back = ring.back;
-    plan_and_place(
+    let kept = keep(coords, n, buffer);
+    let end = kept * 2;
+    sample_kept(
         &buffer[..end],
-        size,
-        back,
+        kept,
+        ccw,
         h,
         options,
         before,

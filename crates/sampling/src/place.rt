@@ -14,8 +14,8 @@ ghost use Rattle.sampling.specs.Backwards.{turnedIf};
 ghost use Rattle.sampling.specs.Placing.{between, betweens};
 use crate::Options;
 use crate::plan::inner_of;
-use crate::plan::margin_at;
 use crate::ring::ring_point;
+use crate::sides::margin_at;
 use geometry::Point;
 
 fn whole(n: usize) -> f64

@@ -1,4 +1,4 @@
--- `float::root` meets its contract: the pattern of an x above 0 gives its significand and exponent, and `root_bits` the bits of its root.
+-- `float::root` meets its contract: the pattern of an x above 0 gives its significand and exponent, and `root_bits` or `normal_bits` the bits of its root.
 use mathlib.Core.Path.{sym, subst}
 use native.Mathlib.Omega.{arith}
 use borrow.Author.Needs.{needs}
@@ -47,27 +47,18 @@ returns c =
     let t = c .before .before in
     from-bits _ (held (t .before .before)) (above t) _ _ (subnormal _ (held (t .before .before)) (above t) (c .before .if3 .taken)) _ (c .root-bits .ensures)
 
-add-w : tie.Need-add-w
-add-w c = let t = c .before in omega (arith, finite-field _ (held (t .before .before)) (above t))
-
-add-root-bits : tie.Need-add-root-bits
-add-root-bits c = search needs
-
-root-bits-requires-2 : tie.Need-root-bits-requires-2
-root-bits-requires-2 c κs =
-    let t = c .before in
-    let S = normal _ (held (t .before .before)) (above t) (c .if3 .left) in
-    (S .most, S .finite)
+normal-bits-requires : tie.Need-normal-bits-requires
+normal-bits-requires c κs = let t = c .before in omega (arith, finite-field _ (held (t .before .before)) (above t))
 
 float-from-bits-result-2 : tie.Need-float-from-bits-result-2
 float-from-bits-result-2 c =
     let t = c .before .before in
-    no-nan-bits _ (held (t .before .before)) (above t) _ _ (normal _ (held (t .before .before)) (above t) (c .before .if3 .left)) _ (c .root-bits2 .ensures)
+    no-nan-bits _ (held (t .before .before)) (above t) _ _ (normal _ (held (t .before .before)) (above t) (c .before .if3 .left)) _ (c .normal-bits .ensures)
 
 returns-2 : tie.Need-returns-2
 returns-2 c =
     let t = c .before .before in
-    from-bits _ (held (t .before .before)) (above t) _ _ (normal _ (held (t .before .before)) (above t) (c .before .if3 .left)) _ (c .root-bits2 .ensures)
+    from-bits _ (held (t .before .before)) (above t) _ _ (normal _ (held (t .before .before)) (above t) (c .before .if3 .left)) _ (c .normal-bits .ensures)
 
 returns-3 : tie.Need-returns-3
 returns-3 c = endless-root _ (c .before .if1 .taken) (c .if2 .left)
@@ -81,4 +72,4 @@ returns-5 c = no-root _ (c .before .if1 .left) (c .if4 .left)
 pub root-spec : {M : Type 1} → statement M
 root-spec =
     tie.close
-    (tie.spec float-to-bits-b cast-z sub-root-bits shl-root-bits sub-root-bits-2 root-bits-requires float-from-bits-result returns add-w add-root-bits root-bits-requires-2 float-from-bits-result-2 returns-2 returns-3 returns-4 returns-5)
+    (tie.spec float-to-bits-b cast-z sub-root-bits shl-root-bits sub-root-bits-2 root-bits-requires float-from-bits-result returns normal-bits-requires float-from-bits-result-2 returns-2 returns-3 returns-4 returns-5)

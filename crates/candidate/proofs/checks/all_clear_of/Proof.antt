@@ -1,4 +1,4 @@
--- `rows::checks::all_clear_of` meets its contract. The invariant: the points passed are clear of the front. The measure is the points left.
+-- `candidate::checks::all_clear_of` meets its contract. The invariant: the points passed are clear of the front. The measure is the points left.
 use mathlib.Core.Path.{_≡_}
 use mathlib.Core.Bool.{true, false, not}
 use Prim.Native.Nat.{_≤_, _-_}

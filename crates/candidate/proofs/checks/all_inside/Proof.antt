@@ -1,4 +1,4 @@
--- `rows::checks::all_inside` meets its contract. The invariant: the points passed are in the domain. The measure is the points left.
+-- `candidate::checks::all_inside` meets its contract. The invariant: the points passed are in the domain. The measure is the points left.
 use mathlib.Core.Path.{_≡_}
 use mathlib.Core.Bool.{true}
 use Prim.Native.Nat.{_≤_, _-_}

@@ -1,4 +1,4 @@
--- `rows::checks::all_off_boundary` meets its contract. The invariant: the points passed are off the boundary. The measure is the points left.
+-- `candidate::checks::all_off_boundary` meets its contract. The invariant: the points passed are off the boundary. The measure is the points left.
 use mathlib.Core.Path.{_≡_}
 use mathlib.Core.Bool.{true, not}
 use Prim.Native.Nat.{_≤_, _-_}

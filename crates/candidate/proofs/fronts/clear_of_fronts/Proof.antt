@@ -1,4 +1,4 @@
--- `rows::fronts::clear_of_fronts` meets its contract. The invariant: `start` is where the next front stands, and the fronts passed are clear. The measure is the fronts left.
+-- `candidate::fronts::clear_of_fronts` meets its contract. The invariant: `start` is where the next front stands, and the fronts passed are clear. The measure is the fronts left.
 use mathlib.Core.Path.{_≡_, refl, _∙_, ap, sym}
 use mathlib.Core.Bool.{Bool, true, false, _||_}
 use mathlib.Core.List.{List, []}

@@ -1,4 +1,4 @@
--- `rows::fronts::front_at` meets its contract.
+-- `candidate::fronts::front_at` meets its contract.
 use mathlib.Core.Path.{sym}
 use native.Mathlib.Omega.{arith}
 use lib.ListN.{length-take}

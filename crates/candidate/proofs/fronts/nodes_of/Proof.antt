@@ -1,4 +1,4 @@
--- `rows::fronts::nodes_of` meets its contract.
+-- `candidate::fronts::nodes_of` meets its contract.
 use mathlib.Core.Path.{_≡_}
 use Prim.Native.Nat.{_+_, _-_}
 use native.Mathlib.Omega.{arith}

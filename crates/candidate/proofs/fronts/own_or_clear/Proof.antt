@@ -1,4 +1,4 @@
--- `rows::fronts::own_or_clear` meets its contract.
+-- `candidate::fronts::own_or_clear` meets its contract.
 use borrow.Author.Needs.{needs}
 use Rattle.candidate.proofs.fronts.own_or_clear.Statement.{statement}
 use Rattle.candidate.proofs.fronts.own_or_clear.Tie as tie

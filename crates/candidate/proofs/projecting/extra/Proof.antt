@@ -1,4 +1,4 @@
--- `rows::projecting::extra` meets its contract.
+-- `candidate::projecting::extra` meets its contract.
 use Rattle.geometry.proofs.Literals.{zero-is}
 use Rattle.candidate.proofs.Literals.{quarter-is}
 use borrow.Author.Needs.{needs}

@@ -1,4 +1,4 @@
--- `rows::projecting::project` meets its contract.
+-- `candidate::projecting::project` meets its contract.
 use Rattle.geometry.proofs.Literals.{tiny-is, two-is, three-is}
 use Rattle.candidate.proofs.Literals.{nano-is, fifth-is}
 use Rattle.candidate.proofs.Projects.{short-before, short-after, no-bisector, too-acute, projected}
@@ -6,26 +6,20 @@ use borrow.Author.Needs.{needs}
 use Rattle.candidate.proofs.projecting.project.Statement.{statement}
 use Rattle.candidate.proofs.projecting.project.Tie as tie
 
-side-length-requires : tie.Need-side-length-requires
-side-length-requires c κs = search needs
-
-side-length-requires-2 : tie.Need-side-length-requires-2
-side-length-requires-2 c κs = search needs
-
 returns : tie.Need-returns
-returns c = short-before _ _ _ _ _ _ (c .before .before .side-length .ensures) (c .before .side-length2 .ensures) (rw tiny-is at (c .if1 .taken))
+returns c = short-before _ _ _ _ _ _ (c .before .pre .0) (c .before .pre .1) (rw tiny-is at (c .if1 .taken))
 
 returns-2 : tie.Need-returns-2
-returns-2 c = short-after _ _ _ _ _ _ (c .before .before .before .side-length .ensures) (c .before .before .side-length2 .ensures) (rw tiny-is at (c .before .if1 .left)) (rw tiny-is at (c .if2 .taken))
+returns-2 c = short-after _ _ _ _ _ _ (c .before .before .pre .0) (c .before .before .pre .1) (rw tiny-is at (c .before .if1 .left)) (rw tiny-is at (c .if2 .taken))
 
 root-requires : tie.Need-root-requires
 root-requires c κs = search needs
 
 returns-3 : tie.Need-returns-3
-returns-3 c = no-bisector _ _ _ _ _ _ (c .before .before .before .before .before .before .before .before .before .before .before .before .before .side-length .ensures) (c .before .before .before .before .before .before .before .before .before .before .before .before .side-length2 .ensures) (rw tiny-is at (c .before .before .before .before .before .before .before .before .before .before .before .if1 .left)) (rw tiny-is at (c .before .before .before .before .before .before .before .before .before .before .if2 .left)) _ (c .before .root .ensures) (rw nano-is at (c .if3 .taken))
+returns-3 c = no-bisector _ _ _ _ _ _ (c .before .before .before .before .before .before .before .before .before .before .before .before .pre .0) (c .before .before .before .before .before .before .before .before .before .before .before .before .pre .1) (rw tiny-is at (c .before .before .before .before .before .before .before .before .before .before .before .if1 .left)) (rw tiny-is at (c .before .before .before .before .before .before .before .before .before .before .if2 .left)) _ (c .before .root .ensures) (rw nano-is at (c .if3 .taken))
 
 returns-4 : tie.Need-returns-4
-returns-4 c = too-acute _ _ _ _ _ _ (c .before .before .before .before .before .before .before .before .before .before .before .before .before .before .side-length .ensures) (c .before .before .before .before .before .before .before .before .before .before .before .before .before .side-length2 .ensures) (rw tiny-is at (c .before .before .before .before .before .before .before .before .before .before .before .before .if1 .left)) (rw tiny-is at (c .before .before .before .before .before .before .before .before .before .before .before .if2 .left)) _ (c .before .before .root .ensures) (rw nano-is at (c .before .if3 .left))
+returns-4 c = too-acute _ _ _ _ _ _ (c .before .before .before .before .before .before .before .before .before .before .before .before .before .pre .0) (c .before .before .before .before .before .before .before .before .before .before .before .before .before .pre .1) (rw tiny-is at (c .before .before .before .before .before .before .before .before .before .before .before .before .if1 .left)) (rw tiny-is at (c .before .before .before .before .before .before .before .before .before .before .before .if2 .left)) _ (c .before .before .root .ensures) (rw nano-is at (c .before .if3 .left))
     (rw (two-is, fifth-is) at (c .if4 .taken))
 
 extra-requires : tie.Need-extra-requires
@@ -35,15 +29,13 @@ lesser-requires : tie.Need-lesser-requires
 lesser-requires c κs = search needs
 
 returns-5 : tie.Need-returns-5
-returns-5 c = projected _ _ _ _ _ _ (c .before .before .before .before .before .before .before .before .before .before .before .before .before .before .before .before .before .before .side-length .ensures) (c .before .before .before .before .before .before .before .before .before .before .before .before .before .before .before .before .before .side-length2 .ensures) (rw tiny-is at (c .before .before .before .before .before .before .before .before .before .before .before .before .before .before .before .before .if1 .left)) (rw tiny-is at (c .before .before .before .before .before .before .before .before .before .before .before .before .before .before .before .if2 .left)) _ (c .before .before .before .before .before .before .root .ensures) _ _
+returns-5 c = projected _ _ _ _ _ _ (c .before .before .before .before .before .before .before .before .before .before .before .before .before .before .before .before .before .pre .0) (c .before .before .before .before .before .before .before .before .before .before .before .before .before .before .before .before .before .pre .1) (rw tiny-is at (c .before .before .before .before .before .before .before .before .before .before .before .before .before .before .before .before .if1 .left)) (rw tiny-is at (c .before .before .before .before .before .before .before .before .before .before .before .before .before .before .before .if2 .left)) _ (c .before .before .before .before .before .before .root .ensures) _ _
     (rw nano-is at (c .before .before .before .before .before .if3 .left)) (rw (two-is, fifth-is) at (c .before .before .before .before .if4 .left)) (c .before .before .before .extra .ensures) (rw (two-is, three-is) at (c .before .before .lesser .ensures))
 
 pub project-spec : {M : Type 1} → statement M
 project-spec =
     tie.close
     (tie.spec
-    side-length-requires
-    side-length-requires-2
     returns
     returns-2
     root-requires

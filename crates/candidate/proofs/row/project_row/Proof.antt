@@ -1,46 +1,55 @@
--- `rows::candidate::project_row` meets its contract. The invariant: the nodes passed project, and their points stand at the front of the row. The measure is the nodes left.
+-- `candidate::row::project_row` meets its contract. The invariant: the nodes passed project, their points stand at the front of the row, and the turn has the node before, its own and the length of the side between. The measure is the nodes left.
 use mathlib.Core.Path.{_≡_, refl, ap, _∙_}
 use mathlib.Core.Bool.{true, cond}
-use Prim.Native.Nat.{_≤_, _-_, _*_}
+use Prim.Native.Nat.{_≤_, _<_, _-_, _*_}
 use native.Mathlib.Omega.{arith}
 use borrow.Author.Needs.{needs}
 use lib.ListN.{length}
 use lib.Seq.{sets}
-use Rattle.geometry.specs.Rings.{Ring, nodeRing}
+use Rattle.geometry.specs.Rings.{Ring, nodeRing, prev}
+use Rattle.geometry.specs.Measures.{sideLength}
 use Rattle.candidate.proofs.Basics.{twenty-two}
 use Rattle.paving.specs.Row.{every, newPoints}
 use Rattle.candidate.proofs.Every.{every-none, every-more, every-stops, every-end}
-use Rattle.candidate.proofs.Building.{projects, projected-at, fails, passes, points-more, length-more, row-more, row-done}
+use Rattle.candidate.proofs.Building.{projects, projected-at, handed-on, fails, passes, points-more, length-more, row-more, row-done}
 use Rattle.candidate.proofs.row.project_row.Statement.{statement}
 use Rattle.candidate.proofs.row.project_row.Tie as tie
 
 abbrev Inv-loop : tie.InvT-loop
-Inv-loop points nodes h row₀ n i₀ row i = (i ≤ n) × (every (projects (nodeRing points nodes) h) i ≡ true) × (length (newPoints (nodeRing points nodes) h i) ≡ i * 2) × (length row ≡ length row₀) × (row ≡ sets row₀ 0 (newPoints (nodeRing points nodes) h i))
+Inv-loop points nodes h row₀ n last a₀ b₀ l1₀ i₀ row a b l1 i =
+    (i ≤ n) × (every (projects (nodeRing points nodes) h) i ≡ true) × (length (newPoints (nodeRing points nodes) h i) ≡ i * 2) × (length row ≡ length row₀) × (row ≡ sets row₀ 0 (newPoints (nodeRing points nodes) h i))
+    × (l1 ≡ sideLength a b) × (i < n → (a ≡ nodeRing points nodes .at (prev n i)) × (b ≡ nodeRing points nodes .at i))
 
 abbrev μ-loop : tie.MeasureT-loop
-μ-loop points nodes h row₀ n i₀ row i = n - i
-
-loop-holds : tie.Need-loop-holds Inv-loop μ-loop
-unfolding newPoints
-loop-holds c = (omega arith, every-none _, refl, refl, refl)
+μ-loop points nodes h row₀ n last a₀ b₀ l1₀ i₀ row a b l1 i = n - i
 
 prev-of-requires : tie.Need-prev-of-requires Inv-loop μ-loop
 prev-of-requires c κs = search needs
 
+node-point-requires : tie.Need-node-point-requires Inv-loop μ-loop
+node-point-requires c κs = let k = c .prev-of .ensures .1 in (k, c .before .before .before .before .pre .1 _ k)
+
+node-point-requires-2 : tie.Need-node-point-requires-2 Inv-loop μ-loop
+node-point-requires-2 c κs = let k = c .before .before .before .before .before .pre .0 .0 in (k, c .before .before .before .before .before .pre .1 _ k)
+
+side-length-requires : tie.Need-side-length-requires Inv-loop μ-loop
+side-length-requires c κs = search needs
+
+loop-holds : tie.Need-loop-holds Inv-loop μ-loop
+unfolding newPoints
+loop-holds c = (omega arith, every-none _, refl, refl, refl, c .side-length .ensures, λ l. (c .before .before .node-point .ensures ∙ ap (λ k. nodeRing (c .before .before .before .before .before .before .before .args .points .now) (c .before .before .before .before .before .before .before .args .nodes .now) .at k) (c .before .before .before .prev-of .ensures .0), c .before .node-point2 .ensures))
+
 next-of-requires : tie.Need-next-of-requires Inv-loop μ-loop
 next-of-requires c κs = search needs
 
-node-point-requires : tie.Need-node-point-requires Inv-loop μ-loop
-node-point-requires c κs = let k = c .before .prev-of .ensures .1 in (k, c .before .before .before .before .before .before .before .pre .1 _ k)
-
-node-point-requires-2 : tie.Need-node-point-requires-2 Inv-loop μ-loop
-node-point-requires-2 c κs = let k = c .before .before .before .loop-test .taken in (k, c .before .before .before .before .before .before .before .before .pre .1 _ k)
-
 node-point-requires-3 : tie.Need-node-point-requires-3 Inv-loop μ-loop
-node-point-requires-3 c κs = let k = c .before .before .next-of .ensures .1 in (k, c .before .before .before .before .before .before .before .before .before .pre .1 _ k)
+node-point-requires-3 c κs = let k = c .next-of .ensures .1 in (k, c .before .before .before .before .before .before .before .before .before .before .pre .1 _ k)
+
+side-length-requires-2 : tie.Need-side-length-requires-2 Inv-loop μ-loop
+side-length-requires-2 c κs = search needs
 
 project-requires : tie.Need-project-requires Inv-loop μ-loop
-project-requires c κs = search needs
+project-requires c κs = (c .before .before .before .before .loop .inv .5, c .side-length2 .ensures)
 
 enum-known-x : tie.Need-enum-known-x Inv-loop μ-loop
 enum-known-x c = search needs
@@ -49,41 +58,58 @@ enum-told : tie.Need-enum-told Inv-loop μ-loop
 enum-told c = search needs
 
 same-length : tie.Need-same-length Inv-loop μ-loop
-same-length c = c .before .before .before .before .before .before .before .before .before .loop .inv .3
+same-length c = c .before .before .before .before .before .before .before .loop .inv .3
 
 returns : tie.Need-returns Inv-loop μ-loop
-returns c = let r : Ring = nodeRing (c .before .before .before .before .before .before .before .before .before .before .before .before .before .args .points .now) (c .before .before .before .before .before .before .before .before .before .before .before .before .before .args .nodes .now) in
-    let e = projected-at r (c .before .before .before .before .before .before .before .before .before .before .before .before .before .args .h) (c .before .before .before .before .before .before .before .before .before .loop .i) _ _ _ _ _ _ (c .before .before .project .ensures) (c .before .before .before .before .before .node-point .ensures) (c .before .before .before .before .before .before .before .prev-of .ensures .0) (c .before .before .before .before .node-point2 .ensures) (c .before .before .before .node-point3 .ensures) (c .before .before .before .before .before .before .next-of .ensures .0) in
-    (ap (λ b. cond b 0 22) (every-stops (projects r (c .before .before .before .before .before .before .before .before .before .before .before .before .before .args .h)) _ _ (c .before .before .before .before .before .before .before .before .loop-test .taken) (fails r (c .before .before .before .before .before .before .before .before .before .before .before .before .before .args .h) (c .before .before .before .before .before .before .before .before .before .loop .i) _ e (c .enum-told .given .1))), λ f. absurd (twenty-two f))
+returns c =
+    let a = c .before .before .before .before .before .before .before .before .before .before .before .before .before .before .before .args in
+    let t = c .before .before .before .before .before .before .before in
+    let l = c .before .before .before .before .before .before .loop-test .taken in
+    let r : Ring = nodeRing (a .points .now) (a .nodes .now) in
+    let e = projected-at r (a .h) (t .loop .i) _ _ _ _ _ (c .before .before .project .ensures) (t .loop .inv .6 l) (c .before .before .before .before .node-point3 .ensures) (c .before .before .before .before .before .next-of .ensures .0) in
+    (ap (λ b. cond b 0 22) (every-stops (projects r (a .h)) _ _ l (fails r (a .h) (t .loop .i) _ e (c .enum-told .given .1))), λ f. absurd (twenty-two f))
 
 put-point-requires : tie.Need-put-point-requires Inv-loop μ-loop
-put-point-requires c κs = omega arith
+put-point-requires c κs = omega (arith, c .before .before .before .before .before .before .before .before .loop-test .taken, c .before .before .before .before .before .before .before .before .before .loop .inv .3, c .before .before .before .before .before .before .before .before .before .before .before .before .before .before .before .before .before .pre .0 .1)
 
 add-i : tie.Need-add-i Inv-loop μ-loop
-add-i c = omega (arith, c .before .before .before .before .before .before .before .before .before .before .before .before .before .loop-test .taken, c .before .before .before .before .before .before .before .before .before .before .before .before .before .before .before .before .before .before .good)
+add-i c = omega (arith, c .before .before .before .before .before .before .before .before .before .before .before .loop-test .taken, c .before .before .before .before .before .before .before .before .before .before .before .before .before .before .before .before .before .before .before .before .good)
 
 loop-less : tie.Need-loop-less Inv-loop μ-loop
-loop-less c = omega (arith, c .before .before .before .before .before .before .before .before .before .before .before .before .before .loop-test .taken)
+loop-less c = omega (arith, c .before .before .before .before .before .before .before .before .before .before .before .loop-test .taken)
 
 loop-again : tie.Need-loop-again Inv-loop μ-loop
-loop-again c = let r : Ring = nodeRing (c .before .before .before .before .before .before .before .before .before .before .before .before .before .before .before .before .before .before .args .points .now) (c .before .before .before .before .before .before .before .before .before .before .before .before .before .before .before .before .before .before .args .nodes .now) in
-    let e = projected-at r (c .before .before .before .before .before .before .before .before .before .before .before .before .before .before .before .before .before .before .args .h) (c .before .before .before .before .before .before .before .before .before .before .before .before .before .before .loop .i) _ _ _ _ _ _ (c .before .before .before .before .before .before .before .project .ensures) (c .before .before .before .before .before .before .before .before .before .before .node-point .ensures) (c .before .before .before .before .before .before .before .before .before .before .before .before .prev-of .ensures .0) (c .before .before .before .before .before .before .before .before .before .node-point2 .ensures) (c .before .before .before .before .before .before .before .before .node-point3 .ensures) (c .before .before .before .before .before .before .before .before .before .before .before .next-of .ensures .0) in
-    let m = points-more r (c .before .before .before .before .before .before .before .before .before .before .before .before .before .before .before .before .before .before .args .h) (c .before .before .before .before .before .before .before .before .before .before .before .before .before .before .loop .i) _ _ _ e (c .before .before .before .before .before .x .given .1) in (
-      omega (arith, c .before .before .before .before .before .before .before .before .before .before .before .before .before .loop-test .taken),
-      every-more (projects r (c .before .before .before .before .before .before .before .before .before .before .before .before .before .before .before .before .before .before .args .h)) _ (c .before .before .before .before .before .before .before .before .before .before .before .before .before .before .loop .inv .1) (passes r (c .before .before .before .before .before .before .before .before .before .before .before .before .before .before .before .before .before .before .args .h) (c .before .before .before .before .before .before .before .before .before .before .before .before .before .before .loop .i) _ _ _ e (c .before .before .before .before .before .x .given .1)),
-      length-more r (c .before .before .before .before .before .before .before .before .before .before .before .before .before .before .before .before .before .before .args .h) _ _ _ (c .before .before .before .before .before .before .before .before .before .before .before .before .before .before .loop .inv .2) m,
-      c .before .before .put-point .kept .0 ∙ c .before .before .before .before .before .before .before .before .before .before .before .before .before .before .loop .inv .3,
-      row-more r (c .before .before .before .before .before .before .before .before .before .before .before .before .before .before .before .before .before .before .args .h) _ _ _ (c .before .before .before .before .before .before .before .before .before .before .before .before .before .before .before .before .before .before .args .row .now) (c .before .before .before .before .before .before .before .before .before .before .before .before .before .before .loop .row) _ (c .before .before .before .before .before .before .before .before .before .before .before .before .before .before .loop .inv .4) (c .before .before .before .before .before .before .before .before .before .before .before .before .before .before .loop .inv .2) m (c .before .before .put-point .ensures),
+loop-again c =
+    let a = c .before .before .before .before .before .before .before .before .before .before .before .before .before .before .before .before .before .before .before .before .args in
+    let t = c .before .before .before .before .before .before .before .before .before .before .before .before in
+    let l = c .before .before .before .before .before .before .before .before .before .before .before .loop-test .taken in
+    let r : Ring = nodeRing (a .points .now) (a .nodes .now) in
+    let w = t .loop .inv .6 l in
+    let next-is = c .before .before .before .before .before .before .before .before .before .before .next-of .ensures .0 in
+    let c-is = c .before .before .before .before .before .before .before .before .before .node-point3 .ensures in
+    let e = projected-at r (a .h) (t .loop .i) _ _ _ _ _ (c .before .before .before .before .before .before .before .project .ensures) w c-is next-is in
+    let at-is = c .before .before .before .before .before .x .given .1 in
+    let m = points-more r (a .h) (t .loop .i) _ _ _ e at-is in (
+      omega (arith, l),
+      every-more (projects r (a .h)) _ (t .loop .inv .1) (passes r (a .h) (t .loop .i) _ _ _ e at-is),
+      length-more r (a .h) _ _ _ (t .loop .inv .2) m,
+      c .before .before .put-point .kept .0 ∙ t .loop .inv .3,
+      row-more r (a .h) _ _ _ (a .row .now) (t .loop .row) _ (t .loop .inv .4) (t .loop .inv .2) m (c .before .before .put-point .ensures),
+      c .before .before .before .before .before .before .before .before .side-length2 .ensures,
+      handed-on r (t .loop .i) _ _ _ l (w .1) c-is next-is,
     )
 
 same-length-2 : tie.Need-same-length-2 Inv-loop μ-loop
 same-length-2 c = c .before .loop .inv .3
 
 returns-2 : tie.Need-returns-2 Inv-loop μ-loop
-returns-2 c = let r : Ring = nodeRing (c .before .before .before .before .before .args .points .now) (c .before .before .before .before .before .args .nodes .now) in
-    let e : c .before .loop .i ≡ length (c .before .before .before .before .before .args .nodes .now) = omega arith in (
-      ap (λ b. cond b 0 22) (every-end (projects r (c .before .before .before .before .before .args .h)) _ _ (c .before .loop .inv .1) e),
-      λ _. row-done r (c .before .before .before .before .before .args .h) _ (c .before .before .before .before .before .args .row .now) _ (rw e at (c .before .loop .inv .4)) (rw e at (c .before .loop .inv .2)) (c .before .before .before .before .before .pre .0),
+returns-2 c =
+    let a = c .before .before .before .before .before .before .before .before .before .args in
+    let t = c .before in
+    let r : Ring = nodeRing (a .points .now) (a .nodes .now) in
+    let e : t .loop .i ≡ length (a .nodes .now) = omega arith in (
+      ap (λ b. cond b 0 22) (every-end (projects r (a .h)) _ _ (t .loop .inv .1) e),
+      λ _. row-done r (a .h) _ (a .row .now) _ (rw e at (t .loop .inv .4)) (rw e at (t .loop .inv .2)) (c .before .before .before .before .before .before .before .before .before .pre .0 .1),
     )
 
 pub project-row-spec : {M : Type 1} → statement M
@@ -92,12 +118,14 @@ project-row-spec =
     (tie.spec
     Inv-loop
     μ-loop
-    loop-holds
     prev-of-requires
-    next-of-requires
     node-point-requires
     node-point-requires-2
+    side-length-requires
+    loop-holds
+    next-of-requires
     node-point-requires-3
+    side-length-requires-2
     project-requires
     enum-known-x
     enum-told

@@ -1,4 +1,4 @@
--- `rows::candidate::rest_stands` meets its contract.
+-- `candidate::row::rest_stands` meets its contract.
 use mathlib.Core.Path.{_≡_, sym, _∙_, ap}
 use native.Mathlib.Omega.{arith}
 use borrow.Author.Tests.{not-true, not-false}
@@ -8,7 +8,7 @@ use Rattle.sampling.specs.Job.{Job}
 use Rattle.sampling.specs.Call.{job}
 use Rattle.candidate.proofs.Literals.{twentieth-is}
 use Rattle.candidate.proofs.Cutting.{cut-length, part-of-all, part-is, pairs-within}
-use Rattle.candidate.proofs.Standing.{one-outside, one-at-boundary, one-short, one-near, two-cross, corners-decide}
+use Rattle.candidate.proofs.Standing.{one-outside, one-at-boundary, one-quad-fails, one-near, crossing-decides}
 use borrow.Author.Needs.{needs}
 use Rattle.candidate.proofs.row.rest_stands.Statement.{statement}
 use Rattle.candidate.proofs.row.rest_stands.Tie as tie
@@ -17,56 +17,79 @@ all-inside-requires : tie.Need-all-inside-requires
 all-inside-requires c κs = search needs
 
 returns : tie.Need-returns
-returns c = let a = c .before .before .before .before .before .before .before .before .args in let j : Job = job (a .coords .now) (a .loop-lengths .now) (a .h) (a .options) in let l = a .lengths .now in let xs = a .front-nodes .now in
-    let hn = cut-length l xs (a .li) (c .before .before .before .before .before .before .before .before .pre .0 .0) (c .before .before .before .before .before .before .before .before .pre .1 .0 .1) (a .front .len) (c .before .before .before .before .before .before .before .before .pre .0 .2) in
+returns c =
+    let a = c .before .before .before .before .before .before .before .before .args in
+    let p = c .before .before .before .before .before .before .before .before .pre in
+    let j : Job = job (a .coords .now) (a .loop-lengths .now) (a .h) (a .options) in
+    let l = a .lengths .now in
+    let xs = a .front-nodes .now in
+    let hn = cut-length l xs (a .li) (p .0 .0) (p .1 .0 .1) (a .front .len) (p .0 .2) in
     one-outside j (a .points .now) (cut l xs) (a .li) (a .row .now) (a .front .len) hn _ (c .before .all-inside .ensures) (not-true _ (c .if1 .taken))
 
 all-off-boundary-requires : tie.Need-all-off-boundary-requires
 all-off-boundary-requires c κs = search needs
 
 returns-2 : tie.Need-returns-2
-returns-2 c = let a = c .before .before .before .before .before .before .before .before .before .before .args in let j : Job = job (a .coords .now) (a .loop-lengths .now) (a .h) (a .options) in let l = a .lengths .now in let xs = a .front-nodes .now in
-    let hn = cut-length l xs (a .li) (c .before .before .before .before .before .before .before .before .before .before .pre .0 .0) (c .before .before .before .before .before .before .before .before .before .before .pre .1 .0 .1) (a .front .len) (c .before .before .before .before .before .before .before .before .before .before .pre .0 .2) in
+returns-2 c =
+    let a = c .before .before .before .before .before .before .before .before .before .before .args in
+    let p = c .before .before .before .before .before .before .before .before .before .before .pre in
+    let j : Job = job (a .coords .now) (a .loop-lengths .now) (a .h) (a .options) in
+    let l = a .lengths .now in
+    let xs = a .front-nodes .now in
+    let hn = cut-length l xs (a .li) (p .0 .0) (p .1 .0 .1) (a .front .len) (p .0 .2) in
     one-at-boundary j (a .points .now) (cut l xs) (a .li) (a .row .now) (a .front .len) hn _ (c .before .before .before .all-inside .ensures) (not-false _ (c .before .before .if1 .left)) _ (rw twentieth-is at (c .before .all-off-boundary .ensures)) (not-true _ (c .if2 .taken))
 
-all-long-enough-requires : tie.Need-all-long-enough-requires
-all-long-enough-requires c κs = search needs
+nodes-of-requires : tie.Need-nodes-of-requires
+nodes-of-requires c κs = let p = c .before .before .before .before .before .before .before .before .before .before .pre in let w = pairs-within (c .before .before .before .before .before .before .before .before .before .before .args .lengths .now) (c .before .before .before .before .before .before .before .before .before .before .args .li) (p .0 .0) in omega arith
+
+all-quads-stand-requires : tie.Need-all-quads-stand-requires
+all-quads-stand-requires c κs =
+    let a = c .before .before .before .before .before .before .before .before .before .before .before .before .args in
+    let p = c .before .before .before .before .before .before .before .before .before .before .before .before .pre in
+    let l = a .lengths .now in
+    let xs = a .front-nodes .now in
+    let f = part-is l xs (a .li) (p .0 .0) (p .1 .0 .1) _ _ _ (p .0 .1) (p .0 .2) (c .before .nodes-of .ensures) in
+    let e : a .front .len ≡ length (c .before .nodes-of .result .now) = cut-length l xs (a .li) (p .0 .0) (p .1 .0 .1) (a .front .len) (p .0 .2) ∙ sym (ap length f) in
+    ((p .0 .3, p .0 .4, e), part-of-all l xs _ (p .0 .0) (p .1 .0 .1) _ _ _ _ (p .0 .1) (p .0 .2) (c .before .nodes-of .ensures) (p .1 .1))
 
 returns-3 : tie.Need-returns-3
-returns-3 c = let a = c .before .before .before .before .before .before .before .before .before .before .before .before .before .args in let j : Job = job (a .coords .now) (a .loop-lengths .now) (a .h) (a .options) in let l = a .lengths .now in let xs = a .front-nodes .now in
-    let hn = cut-length l xs (a .li) (c .before .before .before .before .before .before .before .before .before .before .before .before .before .pre .0 .0) (c .before .before .before .before .before .before .before .before .before .before .before .before .before .pre .1 .0 .1) (a .front .len) (c .before .before .before .before .before .before .before .before .before .before .before .before .before .pre .0 .2) in
-    one-short j (a .points .now) (cut l xs) (a .li) (a .row .now) (a .front .len) hn _ (c .before .before .before .before .before .before .all-inside .ensures) (not-false _ (c .before .before .before .before .before .if1 .left)) _ (rw twentieth-is at (c .before .before .before .before .all-off-boundary .ensures)) (not-false _ (c .before .before .before .if2 .left)) _ (c .before .all-long-enough .ensures) (not-true _ (c .if3 .taken))
+returns-3 c =
+    let a = c .before .before .before .before .before .before .before .before .before .before .before .before .before .before .args in
+    let p = c .before .before .before .before .before .before .before .before .before .before .before .before .before .before .pre in
+    let j : Job = job (a .coords .now) (a .loop-lengths .now) (a .h) (a .options) in
+    let l = a .lengths .now in
+    let xs = a .front-nodes .now in
+    let hn = cut-length l xs (a .li) (p .0 .0) (p .1 .0 .1) (a .front .len) (p .0 .2) in
+    let e = part-is l xs (a .li) (p .0 .0) (p .1 .0 .1) _ _ _ (p .0 .1) (p .0 .2) (c .before .before .before .nodes-of .ensures) in
+    one-quad-fails j (a .points .now) (cut l xs) (a .li) (a .row .now) (a .front .len) hn _ (c .before .before .before .before .before .before .before .all-inside .ensures) (not-false _ (c .before .before .before .before .before .before .if1 .left)) _ (rw twentieth-is at (c .before .before .before .before .before .all-off-boundary .ensures)) (not-false _ (c .before .before .before .before .if2 .left)) _ e _ (c .before .all-quads-stand .ensures) (not-true _ (c .if3 .taken))
 
 clear-of-fronts-requires : tie.Need-clear-of-fronts-requires
 clear-of-fronts-requires c κs = search needs
 
 returns-4 : tie.Need-returns-4
-returns-4 c = let a = c .before .before .before .before .before .before .before .before .before .before .before .before .before .before .before .before .args in let j : Job = job (a .coords .now) (a .loop-lengths .now) (a .h) (a .options) in let l = a .lengths .now in let xs = a .front-nodes .now in
-    let hn = cut-length l xs (a .li) (c .before .before .before .before .before .before .before .before .before .before .before .before .before .before .before .before .pre .0 .0) (c .before .before .before .before .before .before .before .before .before .before .before .before .before .before .before .before .pre .1 .0 .1) (a .front .len) (c .before .before .before .before .before .before .before .before .before .before .before .before .before .before .before .before .pre .0 .2) in
-    one-near j (a .points .now) (cut l xs) (a .li) (a .row .now) (a .front .len) hn _ (c .before .before .before .before .before .before .before .before .before .all-inside .ensures) (not-false _ (c .before .before .before .before .before .before .before .before .if1 .left)) _ (rw twentieth-is at (c .before .before .before .before .before .before .before .all-off-boundary .ensures)) (not-false _ (c .before .before .before .before .before .before .if2 .left)) _ (c .before .before .before .before .all-long-enough .ensures) (not-false _ (c .before .before .before .if3 .left)) _ (c .before .clear-of-fronts .ensures) (not-true _ (c .if4 .taken))
+returns-4 c =
+    let a = c .before .before .before .before .before .before .before .before .before .before .before .before .before .before .before .before .before .args in
+    let p = c .before .before .before .before .before .before .before .before .before .before .before .before .before .before .before .before .before .pre in
+    let j : Job = job (a .coords .now) (a .loop-lengths .now) (a .h) (a .options) in
+    let l = a .lengths .now in
+    let xs = a .front-nodes .now in
+    let hn = cut-length l xs (a .li) (p .0 .0) (p .1 .0 .1) (a .front .len) (p .0 .2) in
+    let e = part-is l xs (a .li) (p .0 .0) (p .1 .0 .1) _ _ _ (p .0 .1) (p .0 .2) (c .before .before .before .before .before .before .nodes-of .ensures) in
+    one-near j (a .points .now) (cut l xs) (a .li) (a .row .now) (a .front .len) hn _ (c .before .before .before .before .before .before .before .before .before .before .all-inside .ensures) (not-false _ (c .before .before .before .before .before .before .before .before .before .if1 .left)) _ (rw twentieth-is at (c .before .before .before .before .before .before .before .before .all-off-boundary .ensures)) (not-false _ (c .before .before .before .before .before .before .before .if2 .left)) _ e _ (c .before .before .before .before .all-quads-stand .ensures) (not-false _ (c .before .before .before .if3 .left)) _ (c .before .clear-of-fronts .ensures) (not-true _ (c .if4 .taken))
 
 is-simple-requires : tie.Need-is-simple-requires
-is-simple-requires c κs = search needs
+is-simple-requires c κs = c .before .before .before .before .before .before .before .before .before .before .before .before .before .before .before .before .before .pre .0 .4
 
 returns-5 : tie.Need-returns-5
-returns-5 c = let a = c .before .before .before .before .before .before .before .before .before .before .before .before .before .before .before .before .before .before .args in let j : Job = job (a .coords .now) (a .loop-lengths .now) (a .h) (a .options) in let l = a .lengths .now in let xs = a .front-nodes .now in
-    let hn = cut-length l xs (a .li) (c .before .before .before .before .before .before .before .before .before .before .before .before .before .before .before .before .before .before .pre .0 .0) (c .before .before .before .before .before .before .before .before .before .before .before .before .before .before .before .before .before .before .pre .1 .0 .1) (a .front .len) (c .before .before .before .before .before .before .before .before .before .before .before .before .before .before .before .before .before .before .pre .0 .2) in
-    two-cross j (a .points .now) (cut l xs) (a .li) (a .row .now) (a .front .len) hn _ (c .before .before .before .before .before .before .before .before .before .before .before .all-inside .ensures) (not-false _ (c .before .before .before .before .before .before .before .before .before .before .if1 .left)) _ (rw twentieth-is at (c .before .before .before .before .before .before .before .before .before .all-off-boundary .ensures)) (not-false _ (c .before .before .before .before .before .before .before .before .if2 .left)) _ (c .before .before .before .before .before .before .all-long-enough .ensures) (not-false _ (c .before .before .before .before .before .if3 .left)) _ (c .before .before .before .clear-of-fronts .ensures) (not-false _ (c .before .before .if4 .left)) _ (c .before .is-simple .ensures) (not-true _ (c .if5 .taken))
-
-nodes-of-requires : tie.Need-nodes-of-requires
-nodes-of-requires c κs = let a = c .before .before .before .before .before .before .before .before .before .before .before .before .before .before .before .before .before .before .args in let w = pairs-within (a .lengths .now) (a .li) (c .before .before .before .before .before .before .before .before .before .before .before .before .before .before .before .before .before .before .pre .0 .0) in let p = c .before .before .before .before .before .before .before .before .before .before .before .before .before .before .before .before .before .before .pre in omega arith
-
-all-corners-pass-requires : tie.Need-all-corners-pass-requires
-all-corners-pass-requires c κs = let a = c .before .before .before .before .before .before .before .before .before .before .before .before .before .before .before .before .before .before .before .args in let l = a .lengths .now in let xs = a .front-nodes .now in let p = c .before .before .before .before .before .before .before .before .before .before .before .before .before .before .before .before .before .before .before .pre in
-    let f = part-is l xs _ (p .0 .0) (p .1 .0 .1) _ _ _ (p .0 .1) (p .0 .2) (c .nodes-of .ensures) in
-    let e : a .front .len ≡ length (c .nodes-of .result .now) = cut-length l xs (a .li) (p .0 .0) (p .1 .0 .1) (a .front .len) (p .0 .2) ∙ sym (ap length f) in
-    ((p .0 .3, e), part-of-all l xs _ (p .0 .0) (p .1 .0 .1) _ _ _ _ (p .0 .1) (p .0 .2) (c .nodes-of .ensures) (p .1 .1))
-
-returns-6 : tie.Need-returns-6
-returns-6 c = let a = c .before .before .before .before .before .before .before .before .before .before .before .before .before .before .before .before .before .before .before .before .args in let j : Job = job (a .coords .now) (a .loop-lengths .now) (a .h) (a .options) in let l = a .lengths .now in let xs = a .front-nodes .now in
-    let hn = cut-length l xs (a .li) (c .before .before .before .before .before .before .before .before .before .before .before .before .before .before .before .before .before .before .before .before .pre .0 .0) (c .before .before .before .before .before .before .before .before .before .before .before .before .before .before .before .before .before .before .before .before .pre .1 .0 .1) (a .front .len) (c .before .before .before .before .before .before .before .before .before .before .before .before .before .before .before .before .before .before .before .before .pre .0 .2) in
-    let e = part-is l xs _ (c .before .before .before .before .before .before .before .before .before .before .before .before .before .before .before .before .before .before .before .before .pre .0 .0) (c .before .before .before .before .before .before .before .before .before .before .before .before .before .before .before .before .before .before .before .before .pre .1 .0 .1) _ _ _ (c .before .before .before .before .before .before .before .before .before .before .before .before .before .before .before .before .before .before .before .before .pre .0 .1) (c .before .before .before .before .before .before .before .before .before .before .before .before .before .before .before .before .before .before .before .before .pre .0 .2) (c .before .nodes-of .ensures) in
-    corners-decide j (a .points .now) (cut l xs) (a .li) (a .row .now) (a .front .len) hn _ (c .before .before .before .before .before .before .before .before .before .before .before .before .before .all-inside .ensures) (not-false _ (c .before .before .before .before .before .before .before .before .before .before .before .before .if1 .left)) _ (rw twentieth-is at (c .before .before .before .before .before .before .before .before .before .before .before .all-off-boundary .ensures)) (not-false _ (c .before .before .before .before .before .before .before .before .before .before .if2 .left)) _ (c .before .before .before .before .before .before .before .before .all-long-enough .ensures) (not-false _ (c .before .before .before .before .before .before .before .if3 .left)) _ (c .before .before .before .before .before .clear-of-fronts .ensures) (not-false _ (c .before .before .before .before .if4 .left)) _ (c .before .before .before .is-simple .ensures) (not-false _ (c .before .before .if5 .left)) _ _ e (c .all-corners-pass .ensures)
+returns-5 c =
+    let a = c .before .before .before .before .before .before .before .before .before .before .before .before .before .before .before .before .before .before .args in
+    let p = c .before .before .before .before .before .before .before .before .before .before .before .before .before .before .before .before .before .before .pre in
+    let j : Job = job (a .coords .now) (a .loop-lengths .now) (a .h) (a .options) in
+    let l = a .lengths .now in
+    let xs = a .front-nodes .now in
+    let hn = cut-length l xs (a .li) (p .0 .0) (p .1 .0 .1) (a .front .len) (p .0 .2) in
+    let e = part-is l xs (a .li) (p .0 .0) (p .1 .0 .1) _ _ _ (p .0 .1) (p .0 .2) (c .before .before .before .before .before .before .before .nodes-of .ensures) in
+    crossing-decides j (a .points .now) (cut l xs) (a .li) (a .row .now) (a .front .len) hn _ (c .before .before .before .before .before .before .before .before .before .before .before .all-inside .ensures) (not-false _ (c .before .before .before .before .before .before .before .before .before .before .if1 .left)) _ (rw twentieth-is at (c .before .before .before .before .before .before .before .before .before .all-off-boundary .ensures)) (not-false _ (c .before .before .before .before .before .before .before .before .if2 .left)) _ e _ (c .before .before .before .before .before .all-quads-stand .ensures) (not-false _ (c .before .before .before .before .if3 .left)) _ (c .before .before .clear-of-fronts .ensures) (not-false _ (c .before .if4 .left)) _ (c .is-simple .ensures)
 
 pub rest-stands-spec : {M : Type 1} → statement M
 rest-stands-spec =
@@ -76,12 +99,10 @@ rest-stands-spec =
     returns
     all-off-boundary-requires
     returns-2
-    all-long-enough-requires
+    nodes-of-requires
+    all-quads-stand-requires
     returns-3
     clear-of-fronts-requires
     returns-4
     is-simple-requires
-    returns-5
-    nodes-of-requires
-    all-corners-pass-requires
-    returns-6)
+    returns-5)

@@ -1,4 +1,4 @@
--- `rows::candidate::row_number` meets its contract.
+-- `candidate::row::row_number` meets its contract.
 use mathlib.Core.Path.{_≡_, sym, _∙_, ap}
 use native.Mathlib.Omega.{arith}
 use borrow.Author.Tests.{not-true, not-false}
@@ -37,7 +37,7 @@ project-row-requires c κs = let a = c .before .before .before .before .before .
     let e = part-is l xs (a .li) (p .0 .0) (p .1 .0 .1) _ _ _ (c .before .before .before .front-at .ensures .0) (c .before .before .before .front-at .ensures .1) (c .before .nodes-of .ensures) in
     let a = c .before .before .before .before .before .before .before .before .before .before .args in let p = c .before .before .before .before .before .before .before .before .before .before .pre in let u = pairs-within (a .lengths .now) (a .li) (p .0 .0) in let fs = c .before .before .before .front-at .ensures .0 in let fl = c .before .before .before .front-at .ensures .1 in
     let lo : length (c .before .nodes-of .result .now) ≡ n = ap length e ∙ sym hn in
-    (omega arith, part-of-all l xs (a .li) (p .0 .0) (p .1 .0 .1) _ _ _ _ (c .before .before .before .front-at .ensures .0) (c .before .before .before .front-at .ensures .1) (c .before .nodes-of .ensures) (p .1 .1))
+    ((omega arith, omega arith), part-of-all l xs (a .li) (p .0 .0) (p .1 .0 .1) _ _ _ _ (c .before .before .before .front-at .ensures .0) (c .before .before .before .front-at .ensures .1) (c .before .nodes-of .ensures) (p .1 .1))
 
 same-length : tie.Need-same-length
 same-length c = search needs
@@ -67,7 +67,7 @@ slice-aggregate-rest-stands c = let a = c .before .before .before .before .befor
 rest-stands-requires : tie.Need-rest-stands-requires
 rest-stands-requires c κs = let a = c .before .before .before .before .before .before .before .before .before .before .before .before .before .before .before .args in let p = c .before .before .before .before .before .before .before .before .before .before .before .before .before .before .before .pre in let u = pairs-within (a .lengths .now) (a .li) (p .0 .0) in let fs = c .before .before .before .before .before .before .before .before .front-at .ensures .0 in let fl = c .before .before .before .before .before .before .before .before .front-at .ensures .1 in
     let kept : length (c .before .before .before .before .project-row .last .1 .1 .1 .0) ≡ length (a .row .now) = c .before .before .before .before .project-row .kept .1 .1 .1 .0 in
-    ((p .0 .0, fs, fl, simp length-take (omega arith)), ((p .1 .0 .0, p .1 .0 .1), p .1 .1))
+    ((p .0 .0, fs, fl, omega arith, simp length-take (omega arith)), ((p .1 .0 .0, p .1 .0 .1), p .1 .1))
 
 same-length-2 : tie.Need-same-length-2
 same-length-2 c = search needs

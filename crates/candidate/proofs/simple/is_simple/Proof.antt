@@ -1,4 +1,4 @@
--- `rows::simple::is_simple` meets its contract.
+-- `candidate::simple::is_simple` meets its contract.
 use borrow.Author.Tests.{lt-leb, le-leb}
 use Rattle.paving.specs.Simple.{isSimple}
 use borrow.Author.Needs.{needs}

@@ -1,107 +1,131 @@
--- `rows::simple::sides_cross` meets its contract. The invariants: no crossing was found by the definition's search of the sides passed, and of this side with those passed. The measures are the sides left.
+-- `candidate::simple::sides_cross` meets its contract. The invariants: no crossing was found by the definition's search of the sides passed, and of this side with those passed. The measures are the sides left.
 use mathlib.Core.Path.{_≡_, refl, _∙_, sym}
-use mathlib.Core.Bool.{false}
+use mathlib.Core.Bool.{true, false}
 use Prim.Native.Nat.{_+_, _≤_, _-_}
 use native.Mathlib.Omega.{arith}
 use borrow.Author.Needs.{needs}
-use Rattle.geometry.specs.Rings.{Ring, ringOf}
+use Rattle.geometry.specs.Rings.{Ring, ringOf, next}
 use Rattle.paving.specs.Simple.{search as searchOf, searchSide}
-use Rattle.candidate.proofs.Searching.{before-it, after-it, apart-from-it, sides-cross, skipped, tested, side-more, side-done, found, none-yet, side-none}
+use Rattle.candidate.proofs.Sides.{next-inner}
+use Rattle.candidate.proofs.Searching.{end-within, not-neighbours, sides-cross, tested, side-more, side-begun, side-ended, side-done, last-two, found, none-yet}
 use Rattle.candidate.proofs.simple.sides_cross.Statement.{statement}
 use Rattle.candidate.proofs.simple.sides_cross.Tie as tie
 
 abbrev Inv-loop : tie.InvT-loop
-Inv-loop ring n crossed₀ i after-i a b j₀ crossed j = (i + 1 ≤ j) × (j ≤ n) × (crossed ≡ false) × (searchSide (ringOf ring n) i (j - (i + 1)) (searchOf (ringOf ring n) i) .crossed ≡ false)
+Inv-loop ring n crossed₀ i a b end j₀ i-end crossed j = (i + 2 ≤ j) × (j ≤ end) × (crossed ≡ false) × (searchSide (ringOf ring n) i (j - (i + 1)) (searchOf (ringOf ring n) i) .crossed ≡ false)
 
 abbrev μ-loop : tie.MeasureT-loop
-μ-loop ring n crossed₀ i after-i a b j₀ crossed j = n - j
+μ-loop ring n crossed₀ i a b end j₀ i-end crossed j = end - j
 
 abbrev Inv-sides : tie.InvT-sides
-Inv-sides ring n crossed₀ i₀ crossed i = (i ≤ n) × (crossed ≡ false) × (searchOf (ringOf ring n) i .crossed ≡ false)
+Inv-sides ring n crossed₀ i₀ i-end crossed i = (i + 2 ≤ n) × (crossed ≡ false) × (searchOf (ringOf ring n) i .crossed ≡ false)
 
 abbrev μ-sides : tie.MeasureT-sides
-μ-sides ring n crossed₀ i₀ crossed i = n - i
+μ-sides ring n crossed₀ i₀ i-end crossed i = n - i
+
+sub-i-end : tie.Need-sub-i-end Inv-loop μ-loop Inv-sides μ-sides
+sub-i-end c = omega (arith, c .before .pre .0)
 
 sides-holds : tie.Need-sides-holds Inv-loop μ-loop Inv-sides μ-sides
-sides-holds c = (omega arith, refl, none-yet _)
-
-next-of-requires : tie.Need-next-of-requires Inv-loop μ-loop Inv-sides μ-sides
-next-of-requires c κs = search needs
+sides-holds c = (omega (arith, c .before .pre .0), refl, none-yet _)
 
 point-at-requires : tie.Need-point-at-requires Inv-loop μ-loop Inv-sides μ-sides
 point-at-requires c κs = omega arith
 
+add-point-at : tie.Need-add-point-at Inv-loop μ-loop Inv-sides μ-sides
+add-point-at c = omega arith
+
 point-at-requires-2 : tie.Need-point-at-requires-2 Inv-loop μ-loop Inv-sides μ-sides
 point-at-requires-2 c κs = omega arith
+
+end-of-requires : tie.Need-end-of-requires Inv-loop μ-loop Inv-sides μ-sides
+end-of-requires c κs = omega (arith, c .before .before .before .before .before .pre .0)
 
 add-j : tie.Need-add-j Inv-loop μ-loop Inv-sides μ-sides
 add-j c = omega arith
 
 loop-holds : tie.Need-loop-holds Inv-loop μ-loop Inv-sides μ-sides
-loop-holds c = (omega arith, omega arith, c .before .before .before .before .sides .inv .1, side-none _ _ (c .before .before .before .before .sides .inv .2))
+loop-holds c =
+    let a = c .before .before .before .before .before .before .args in
+    let s = c .before .before .before .before .sides in
+    let l = c .before .before .before .sides-test .taken in
+    let w = end-within (a .n) (s .i) _ (omega (arith, c .before .before .before .before .before .before .pre .0)) (c .end-of .ensures) in
+    (omega arith, omega (arith, w .1, l), s .inv .1, side-begun (ringOf (a .ring .now) (a .n)) (s .i) (omega (arith, l)) (s .inv .2))
 
-next-of-requires-2 : tie.Need-next-of-requires-2 Inv-loop μ-loop Inv-sides μ-sides
-next-of-requires-2 c κs = search needs
-
-add-j-2 : tie.Need-add-j-2 Inv-loop μ-loop Inv-sides μ-sides
-add-j-2 c = omega arith
-
-loop-less : tie.Need-loop-less Inv-loop μ-loop Inv-sides μ-sides
-loop-less c = omega arith
-
-loop-again : tie.Need-loop-again Inv-loop μ-loop Inv-sides μ-sides
-loop-again c = let r : Ring = ringOf (c .before .before .before .before .before .before .before .before .before .before .args .ring .now) (c .before .before .before .before .before .before .before .before .before .before .args .n) in
-    (omega arith, omega arith, c .before .before .before .loop .inv .2, side-more r _ _ _ _ (c .before .before .before .loop .inv .0) (skipped r _ _ _ (before-it (c .before .before .before .before .before .before .before .before .before .before .args .n) (c .before .before .before .before .before .before .before .before .sides .i) (c .before .before .before .loop .j) _ (c .before .next-of2 .ensures .0) (c .if1 .taken)) ∙ c .before .before .before .loop .inv .3))
-
-add-j-3 : tie.Need-add-j-3 Inv-loop μ-loop Inv-sides μ-sides
-add-j-3 c = omega arith
-
-loop-less-2 : tie.Need-loop-less-2 Inv-loop μ-loop Inv-sides μ-sides
-loop-less-2 c = omega arith
-
-loop-again-2 : tie.Need-loop-again-2 Inv-loop μ-loop Inv-sides μ-sides
-loop-again-2 c = let r : Ring = ringOf (c .before .before .before .before .before .before .before .before .before .before .before .args .ring .now) (c .before .before .before .before .before .before .before .before .before .before .before .args .n) in
-    (omega arith, omega arith, c .before .before .before .before .loop .inv .2, side-more r _ _ _ _ (c .before .before .before .before .loop .inv .0) (skipped r _ _ _ (after-it (c .before .before .before .before .before .before .before .before .before .before .before .args .n) (c .before .before .before .before .before .before .before .before .before .sides .i) (c .before .before .before .before .loop .j) _ (c .before .before .before .before .before .before .before .next-of .ensures .0) (c .if2 .taken)) ∙ c .before .before .before .before .loop .inv .3))
+next-of-requires : tie.Need-next-of-requires Inv-loop μ-loop Inv-sides μ-sides
+next-of-requires c κs =
+    let w = end-within (c .before .before .before .before .before .before .before .before .args .n) (c .before .before .before .before .before .before .sides .i) _ (omega (arith, c .before .before .before .before .before .before .before .before .pre .0)) (c .before .before .end-of .ensures) in
+    omega (arith, w .0, c .loop-test .taken)
 
 point-at-requires-3 : tie.Need-point-at-requires-3 Inv-loop μ-loop Inv-sides μ-sides
-point-at-requires-3 c κs = omega arith
+point-at-requires-3 c κs =
+    let w = end-within (c .before .before .before .before .before .before .before .before .before .args .n) (c .before .before .before .before .before .before .before .sides .i) _ (omega (arith, c .before .before .before .before .before .before .before .before .before .pre .0)) (c .before .before .before .end-of .ensures) in
+    omega (arith, w .0, c .before .loop-test .taken, c .before .before .before .before .before .before .before .before .before .pre .1)
 
 point-at-requires-4 : tie.Need-point-at-requires-4 Inv-loop μ-loop Inv-sides μ-sides
-point-at-requires-4 c κs = omega arith
+point-at-requires-4 c κs = omega (arith, c .before .next-of .ensures .1, c .before .before .before .before .before .before .before .before .before .before .pre .1)
 
 segments-cross-requires : tie.Need-segments-cross-requires Inv-loop μ-loop Inv-sides μ-sides
 segments-cross-requires c κs = search needs
 
-add-j-4 : tie.Need-add-j-4 Inv-loop μ-loop Inv-sides μ-sides
-add-j-4 c = omega arith
+add-j-2 : tie.Need-add-j-2 Inv-loop μ-loop Inv-sides μ-sides
+add-j-2 c = omega (arith, c .before .before .before .before .before .loop-test .taken)
 
-loop-less-3 : tie.Need-loop-less-3 Inv-loop μ-loop Inv-sides μ-sides
-loop-less-3 c = omega arith
+loop-less : tie.Need-loop-less Inv-loop μ-loop Inv-sides μ-sides
+loop-less c = omega (arith, c .before .before .before .before .before .loop-test .taken)
 
-loop-again-3 : tie.Need-loop-again-3 Inv-loop μ-loop Inv-sides μ-sides
-loop-again-3 c = let r : Ring = ringOf (c .before .before .before .before .before .before .before .before .before .before .before .before .before .before .before .args .ring .now) (c .before .before .before .before .before .before .before .before .before .before .before .before .before .before .before .args .n) in
-    let e = sides-cross r (c .before .before .before .before .before .before .before .before .before .before .before .before .before .sides .i) (c .before .before .before .before .before .before .before .before .loop .j) _ _ _ _ _ _ _ (c .before .segments-cross .ensures) (c .before .before .before .before .before .before .before .before .before .before .point-at .ensures) (c .before .before .before .before .before .before .before .before .before .point-at2 .ensures) (c .before .before .before .before .before .before .before .before .before .before .before .next-of .ensures .0) (c .before .before .before .point-at3 .ensures) (c .before .before .point-at4 .ensures) (c .before .before .before .before .before .before .next-of2 .ensures .0) in
-    (omega arith, omega arith, c .before .before .before .before .before .before .before .before .loop .inv .2, side-more r _ _ _ _ (c .before .before .before .before .before .before .before .before .loop .inv .0) (tested r _ _ _ _ (c .before .before .before .before .before .before .before .before .loop .inv .3) (apart-from-it (c .before .before .before .before .before .before .before .before .before .before .before .before .before .before .before .args .n) (c .before .before .before .before .before .before .before .before .before .before .before .before .before .sides .i) (c .before .before .before .before .before .before .before .before .loop .j) _ _ (c .before .before .before .before .before .before .next-of2 .ensures .0) (c .before .before .before .before .before .before .before .before .before .before .before .next-of .ensures .0) (c .before .before .before .before .before .if1 .left) (c .before .before .before .before .if2 .left)) e ∙ c .if3 .left))
+loop-again : tie.Need-loop-again Inv-loop μ-loop Inv-sides μ-sides
+loop-again c =
+    let a = c .before .before .before .before .before .before .before .before .before .before .before .before .before .args in
+    let s = c .before .before .before .before .before .before .before .before .before .before .before .sides in
+    let t = c .before .before .before .before .before .before .loop in
+    let r : Ring = ringOf (a .ring .now) (a .n) in
+    let one : 1 ≤ a .n = omega (arith, c .before .before .before .before .before .before .before .before .before .before .before .before .before .pre .0) in
+    let end-is = c .before .before .before .before .before .before .before .end-of .ensures in
+    let w = end-within (a .n) (s .i) _ one end-is in
+    let next-is = next-inner (a .n) (s .i) {k = next (a .n) (s .i)} (omega (arith, c .before .before .before .before .before .before .before .before .before .before .sides-test .taken)) refl (omega (arith, c .before .before .before .before .before .before .before .before .before .before .sides-test .taken)) in
+    let apart = not-neighbours (a .n) (s .i) (t .j) _ one end-is (t .inv .0) (c .before .before .before .before .before .loop-test .taken) in
+    let e = sides-cross r (s .i) (t .j) (s .i + 1) _ _ _ _ _ _ (c .before .segments-cross .ensures) (c .before .before .before .before .before .before .before .before .before .point-at .ensures) (c .before .before .before .before .before .before .before .before .point-at2 .ensures) (sym next-is) (c .before .before .before .point-at3 .ensures) (c .before .before .point-at4 .ensures) (c .before .before .before .before .next-of .ensures .0) in
+    let more = side-more r (s .i) (t .j) (searchOf r (s .i)) false (omega (arith, t .inv .0)) (tested r (s .i) (t .j) (searchSide r (s .i) (t .j - (s .i + 1)) (searchOf r (s .i))) _ (t .inv .3) apart e ∙ c .if1 .left) in
+    (omega (arith, t .inv .0), omega (arith, c .before .before .before .before .before .loop-test .taken), t .inv .2, more)
 
 add-i : tie.Need-add-i Inv-loop μ-loop Inv-sides μ-sides
 add-i c = omega arith
 
 sides-less : tie.Need-sides-less Inv-loop μ-loop Inv-sides μ-sides
-sides-less c = omega arith
+sides-less c = omega (arith, c .before .before .before .before .before .sides-test .taken)
 
 sides-again : tie.Need-sides-again Inv-loop μ-loop Inv-sides μ-sides
-sides-again c = let r : Ring = ringOf (c .before .before .before .before .before .before .before .before .args .ring .now) (c .before .before .before .before .before .before .before .before .args .n) in
-    let e : c .before .loop .j ≡ c .before .before .before .before .before .before .before .before .args .n = omega arith in
-    (omega arith, c .before .loop .inv .2, side-done r _ _ (c .before .before .before .before .before .sides-test .taken) (rw e at (c .before .loop .inv .3)))
+sides-again c =
+    let a = c .before .before .before .before .before .before .before .before .args in
+    let s = c .before .before .before .before .before .before .sides in
+    let t = c .before .loop in
+    let l = c .before .before .before .before .before .sides-test .taken in
+    let r : Ring = ringOf (a .ring .now) (a .n) in
+    let e : t .j ≡ c .before .before .end-of .result = omega arith in
+    let h = rw e at (t .inv .3) in
+    (omega (arith, l), t .inv .2, side-done r (s .i) false (omega (arith, l)) (side-ended r (s .i) _ (omega (arith, e, t .inv .0)) (omega (arith, c .before .before .before .before .before .before .before .before .pre .0)) (c .before .before .end-of .ensures) h))
 
 returns : tie.Need-returns Inv-loop μ-loop Inv-sides μ-sides
-returns c = let e : c .before .sides .i ≡ c .before .before .before .args .n = omega arith in
-    c .before .sides .inv .1 ∙ sym (rw e at (c .before .sides .inv .2))
+returns c =
+    let a = c .before .before .before .args in
+    let s = c .before .sides in
+    s .inv .1 ∙ sym (last-two (ringOf (a .ring .now) (a .n)) (s .i) (omega arith) (s .inv .2))
 
 returns-2 : tie.Need-returns-2 Inv-loop μ-loop Inv-sides μ-sides
-returns-2 c = let r : Ring = ringOf (c .before .before .before .before .before .before .before .before .before .before .before .before .before .before .before .args .ring .now) (c .before .before .before .before .before .before .before .before .before .before .before .before .before .before .before .args .n) in
-    let e = sides-cross r (c .before .before .before .before .before .before .before .before .before .before .before .before .before .sides .i) (c .before .before .before .before .before .before .before .before .loop .j) _ _ _ _ _ _ _ (c .before .segments-cross .ensures) (c .before .before .before .before .before .before .before .before .before .before .point-at .ensures) (c .before .before .before .before .before .before .before .before .before .point-at2 .ensures) (c .before .before .before .before .before .before .before .before .before .before .before .next-of .ensures .0) (c .before .before .before .point-at3 .ensures) (c .before .before .point-at4 .ensures) (c .before .before .before .before .before .before .next-of2 .ensures .0) in
-    found r (c .before .before .before .before .before .before .before .before .before .before .before .before .before .sides .i) (c .before .before .before .before .before .before .before .before .loop .j) (c .before .before .before .before .before .before .before .before .loop .inv .0) (c .before .before .before .before .before .before .before .loop-test .taken) (side-more r _ _ _ _ (c .before .before .before .before .before .before .before .before .loop .inv .0) (tested r _ _ _ _ (c .before .before .before .before .before .before .before .before .loop .inv .3) (apart-from-it (c .before .before .before .before .before .before .before .before .before .before .before .before .before .before .before .args .n) (c .before .before .before .before .before .before .before .before .before .before .before .before .before .sides .i) (c .before .before .before .before .before .before .before .before .loop .j) _ _ (c .before .before .before .before .before .before .next-of2 .ensures .0) (c .before .before .before .before .before .before .before .before .before .before .before .next-of .ensures .0) (c .before .before .before .before .before .if1 .left) (c .before .before .before .before .if2 .left)) e ∙ c .if3 .taken))
+returns-2 c =
+    let a = c .before .before .before .before .before .before .before .before .before .before .before .before .before .args in
+    let s = c .before .before .before .before .before .before .before .before .before .before .before .sides in
+    let t = c .before .before .before .before .before .before .loop in
+    let r : Ring = ringOf (a .ring .now) (a .n) in
+    let one : 1 ≤ a .n = omega (arith, c .before .before .before .before .before .before .before .before .before .before .before .before .before .pre .0) in
+    let end-is = c .before .before .before .before .before .before .before .end-of .ensures in
+    let w = end-within (a .n) (s .i) _ one end-is in
+    let next-is = next-inner (a .n) (s .i) {k = next (a .n) (s .i)} (omega (arith, c .before .before .before .before .before .before .before .before .before .before .sides-test .taken)) refl (omega (arith, c .before .before .before .before .before .before .before .before .before .before .sides-test .taken)) in
+    let apart = not-neighbours (a .n) (s .i) (t .j) _ one end-is (t .inv .0) (c .before .before .before .before .before .loop-test .taken) in
+    let e = sides-cross r (s .i) (t .j) (s .i + 1) _ _ _ _ _ _ (c .before .segments-cross .ensures) (c .before .before .before .before .before .before .before .before .before .point-at .ensures) (c .before .before .before .before .before .before .before .before .point-at2 .ensures) (sym next-is) (c .before .before .before .point-at3 .ensures) (c .before .before .point-at4 .ensures) (c .before .before .before .before .next-of .ensures .0) in
+    let more = side-more r (s .i) (t .j) (searchOf r (s .i)) true (omega (arith, t .inv .0)) (tested r (s .i) (t .j) (searchSide r (s .i) (t .j - (s .i + 1)) (searchOf r (s .i))) _ (t .inv .3) apart e ∙ c .if1 .taken) in
+    found r (s .i) (t .j) (omega (arith, t .inv .0)) (omega (arith, w .0, c .before .before .before .before .before .loop-test .taken)) more
 
 pub sides-cross-spec : {M : Type 1} → statement M
 sides-cross-spec =
@@ -111,25 +135,21 @@ sides-cross-spec =
     μ-loop
     Inv-sides
     μ-sides
+    sub-i-end
     sides-holds
-    next-of-requires
     point-at-requires
+    add-point-at
     point-at-requires-2
+    end-of-requires
     add-j
     loop-holds
-    next-of-requires-2
-    add-j-2
-    loop-less
-    loop-again
-    add-j-3
-    loop-less-2
-    loop-again-2
+    next-of-requires
     point-at-requires-3
     point-at-requires-4
     segments-cross-requires
-    add-j-4
-    loop-less-3
-    loop-again-3
+    add-j-2
+    loop-less
+    loop-again
     add-i
     sides-less
     sides-again

@@ -1,54 +1,77 @@
--- `geometry::rings::in_front` meets its contract. The invariant: `inside` is the definition's after i sides. The measure is the sides left.
-use Prim.Native.Nat.{_≤_, _-_}
-use mathlib.Core.Path.{_≡_, refl}
+-- `geometry::rings::in_front` meets its contract. The invariant: `inside` has the closing side and the sides up to place i, whose point `below` tests. The measure is the sides left.
+use mathlib.Core.Path.{refl}
+use Prim.Native.Nat.{_+_, _≤_, _<_, _-_}
 use lib.ListN.{length}
 use native.Mathlib.Omega.{arith}
 use borrow.Author.Needs.{needs}
 use Rattle.geometry.specs.Rings.{nodeRing}
-use Rattle.geometry.specs.Measures.{inPolygon, insideSoFar}
-use Rattle.geometry.proofs.Steps.{crossing-step}
+use Rattle.geometry.proofs.Steps.{Counted, all-counted, closing-counted, no-sides, one-counted, test-at}
 use Rattle.geometry.proofs.rings.in_front.Statement.{statement}
 use Rattle.geometry.proofs.rings.in_front.Tie as tie
 
 abbrev Inv-loop : tie.InvT-loop
-Inv-loop p pts nodes n inside₀ i₀ inside i = (i ≤ n) × (inside ≡ insideSoFar p (nodeRing pts nodes) i)
+Inv-loop p pts nodes n last inside₀ below₀ i₀ inside below i = (i ≤ last) × Counted p (nodeRing pts nodes) i inside below
 
 abbrev μ-loop : tie.MeasureT-loop
-μ-loop p pts nodes n inside₀ i₀ inside i = n - i
+μ-loop p pts nodes n last inside₀ below₀ i₀ inside below i = last - i
 
-loop-holds : tie.Need-loop-holds Inv-loop μ-loop
-unfolding insideSoFar
-loop-holds c = (omega arith, refl)
+returns : tie.Need-returns Inv-loop μ-loop
+returns c = no-sides _ _ (c .if1 .taken)
 
-next-of-requires : tie.Need-next-of-requires Inv-loop μ-loop
-next-of-requires c κs = search needs
+sub-last : tie.Need-sub-last Inv-loop μ-loop
+sub-last c = omega (arith, c .if1 .left)
 
 node-point-requires : tie.Need-node-point-requires Inv-loop μ-loop
-node-point-requires c κs = let h = c .before .loop-test .taken in (h, c .before .before .before .before .before .pre _ h)
+node-point-requires c κs =
+    let nodes = c .before .before .before .args .nodes .now in
+    let h : length nodes - 1 < length nodes = omega (arith, c .if1 .left) in
+    (h, c .before .before .before .pre _ h)
 
 node-point-requires-2 : tie.Need-node-point-requires-2 Inv-loop μ-loop
-node-point-requires-2 c κs = let h = c .before .next-of .ensures .1 in (h, c .before .before .before .before .before .before .pre _ h)
+node-point-requires-2 c κs =
+    let s = c .before .before .before .before in
+    let h : 0 < length (s .args .nodes .now) = omega (arith, c .before .if1 .left) in
+    (h, s .pre _ h)
 
 ray-crosses-requires : tie.Need-ray-crosses-requires Inv-loop μ-loop
 ray-crosses-requires c κs = search needs
 
-add-i : tie.Need-add-i Inv-loop μ-loop
-add-i c = omega arith
+loop-holds : tie.Need-loop-holds Inv-loop μ-loop
+loop-holds c =
+    let d = c .before .before in
+    (omega arith, closing-counted _ _ _ _ _ (d .before .before .node-point .ensures) (d .before .node-point2 .ensures) (d .ray-crosses .ensures))
+
+add-j : tie.Need-add-j Inv-loop μ-loop
+add-j c = omega arith
+
+node-point-requires-3 : tie.Need-node-point-requires-3 Inv-loop μ-loop
+node-point-requires-3 c κs =
+    let s = c .before .before .before .before .before .before .before .before .before .before in
+    let h : c .before .loop .i < length (s .args .nodes .now) = omega arith in
+    (h, s .pre _ h)
+
+node-point-requires-4 : tie.Need-node-point-requires-4 Inv-loop μ-loop
+node-point-requires-4 c κs =
+    let s = c .before .before .before .before .before .before .before .before .before .before .before in
+    let h : c .before .before .loop .i + 1 < length (s .args .nodes .now) = omega arith in
+    (h, s .pre _ h)
+
+crosses-between-requires : tie.Need-crosses-between-requires Inv-loop μ-loop
+crosses-between-requires c κs = let d = c .before .before .before in (test-at (d .before .before .loop .inv .1) _ (d .node-point3 .ensures), refl)
 
 loop-less : tie.Need-loop-less Inv-loop μ-loop
 loop-less c = omega arith
 
 loop-again : tie.Need-loop-again Inv-loop μ-loop
-loop-again c = (
-  omega arith,
-  crossing-step _ _ _ _ (record { first = c .before .before .node-point .ensures; second = rw (← c .before .before .before .next-of .ensures .0) (c .before .node-point2 .ensures) }) _ _ _ (c .before .before .before .before .before .loop .inv .1) (c .ray-crosses .ensures),
-)
+loop-again c =
+    let d = c .before .before .before in
+    let so-far = d .before .before .before .loop .inv .1 in
+    (omega arith, one-counted so-far _ _ _ (d .before .before .loop-test .taken) (d .before .node-point3 .ensures) (d .node-point4 .ensures) (c .crosses-between .ensures))
 
-returns : tie.Need-returns Inv-loop μ-loop
-unfolding inPolygon
-returns c =
-    let e : c .before .loop .i ≡ length (c .before .before .before .before .args .nodes .now) = omega arith in
-    rw (c .before .loop .inv .1, e)
+returns-2 : tie.Need-returns-2 Inv-loop μ-loop
+returns-2 c =
+    let e = c .before .before .before .before .before .before in
+    all-counted (c .before .loop .inv .1) (omega (arith, e .before .if1 .left)) (omega arith)
 
 pub in-front-spec : {M : Type 1} → statement M
 in-front-spec =
@@ -56,12 +79,16 @@ in-front-spec =
     (tie.spec
     Inv-loop
     μ-loop
-    loop-holds
-    next-of-requires
+    returns
+    sub-last
     node-point-requires
     node-point-requires-2
     ray-crosses-requires
-    add-i
+    loop-holds
+    add-j
+    node-point-requires-3
+    node-point-requires-4
+    crosses-between-requires
     loop-less
     loop-again
-    returns)
+    returns-2)

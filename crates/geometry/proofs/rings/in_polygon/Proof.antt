@@ -1,54 +1,64 @@
--- `geometry::rings::in_polygon` meets its contract. The invariant: `inside` is the definition's after i sides. The measure is the sides left.
-use mathlib.Core.Path.{_≡_, refl}
+-- `geometry::rings::in_polygon` meets its contract. The invariant: `inside` has the closing side and the sides up to place i, whose point `below` tests. The measure is the sides left.
+use mathlib.Core.Path.{refl}
 use Prim.Native.Nat.{_≤_, _-_}
 use native.Mathlib.Omega.{arith}
 use borrow.Author.Needs.{needs}
 use Rattle.geometry.specs.Rings.{ringOf}
-use Rattle.geometry.specs.Measures.{inPolygon, insideSoFar}
-use Rattle.geometry.proofs.Steps.{crossing-step}
+use Rattle.geometry.proofs.Steps.{Counted, all-counted, closing-counted, no-sides, one-counted, test-at}
 use Rattle.geometry.proofs.rings.in_polygon.Statement.{statement}
 use Rattle.geometry.proofs.rings.in_polygon.Tie as tie
 
 abbrev Inv-loop : tie.InvT-loop
-Inv-loop p pts n inside₀ i₀ inside i = (i ≤ n) × (inside ≡ insideSoFar p (ringOf pts n) i)
+Inv-loop p pts n last inside₀ below₀ i₀ inside below i = (i ≤ last) × Counted p (ringOf pts n) i inside below
 
 abbrev μ-loop : tie.MeasureT-loop
-μ-loop p pts n inside₀ i₀ inside i = n - i
+μ-loop p pts n last inside₀ below₀ i₀ inside below i = last - i
 
-loop-holds : tie.Need-loop-holds Inv-loop μ-loop
-unfolding insideSoFar
-loop-holds c = (omega arith, refl)
+returns : tie.Need-returns Inv-loop μ-loop
+returns c = no-sides _ _ (c .if1 .taken)
 
-next-of-requires : tie.Need-next-of-requires Inv-loop μ-loop
-next-of-requires c κs = search needs
+sub-last : tie.Need-sub-last Inv-loop μ-loop
+sub-last c = omega (arith, c .if1 .left)
 
 point-at-requires : tie.Need-point-at-requires Inv-loop μ-loop
-point-at-requires c κs = omega arith
+point-at-requires c κs = omega (arith, c .if1 .left)
 
 point-at-requires-2 : tie.Need-point-at-requires-2 Inv-loop μ-loop
-point-at-requires-2 c κs = omega arith
+point-at-requires-2 c κs = omega (arith, c .before .if1 .left)
 
 ray-crosses-requires : tie.Need-ray-crosses-requires Inv-loop μ-loop
 ray-crosses-requires c κs = search needs
 
-add-i : tie.Need-add-i Inv-loop μ-loop
-add-i c = omega arith
+loop-holds : tie.Need-loop-holds Inv-loop μ-loop
+loop-holds c =
+    let d = c .before .before in
+    (omega arith, closing-counted _ _ _ _ _ (d .before .before .point-at .ensures) (d .before .point-at2 .ensures) (d .ray-crosses .ensures))
+
+add-j : tie.Need-add-j Inv-loop μ-loop
+add-j c = omega arith
+
+point-at-requires-3 : tie.Need-point-at-requires-3 Inv-loop μ-loop
+point-at-requires-3 c κs = omega arith
+
+point-at-requires-4 : tie.Need-point-at-requires-4 Inv-loop μ-loop
+point-at-requires-4 c κs = omega arith
+
+crosses-between-requires : tie.Need-crosses-between-requires Inv-loop μ-loop
+crosses-between-requires c κs = let d = c .before .before .before in (test-at (d .before .before .loop .inv .1) _ (d .point-at3 .ensures), refl)
 
 loop-less : tie.Need-loop-less Inv-loop μ-loop
 loop-less c = omega arith
 
 loop-again : tie.Need-loop-again Inv-loop μ-loop
 loop-again c =
-    let at-loop = c .before .before .before .before .before in (
-      omega arith,
-      crossing-step _ _ _ _ (record { first = c .before .before .point-at .ensures; second = rw (← c .before .before .before .next-of .ensures .0) (c .before .point-at2 .ensures) }) _ _ _ (at-loop .loop .inv .1) (c .ray-crosses .ensures),
-    )
+    let d = c .before .before .before in
+    let so-far = d .before .before .before .loop .inv .1 in
+    (omega arith, one-counted so-far _ _ _ (d .before .before .loop-test .taken) (d .before .point-at3 .ensures) (d .point-at4 .ensures) (c .crosses-between .ensures))
 
-returns : tie.Need-returns Inv-loop μ-loop
-unfolding inPolygon
-returns c =
-    let e : c .before .loop .i ≡ c .before .before .before .args .n = omega arith in
-    rw (c .before .loop .inv .1, e)
+returns-2 : tie.Need-returns-2 Inv-loop μ-loop
+returns-2 c =
+    let e = c .before .before .before .before .before .before in
+    all-counted (c .before .loop .inv .1) (omega (arith, e .before .if1 .left)) (omega arith)
 
 pub in-polygon-spec : {M : Type 1} → statement M
 in-polygon-spec =
@@ -56,12 +66,16 @@ in-polygon-spec =
     (tie.spec
     Inv-loop
     μ-loop
-    loop-holds
-    next-of-requires
+    returns
+    sub-last
     point-at-requires
     point-at-requires-2
     ray-crosses-requires
-    add-i
+    loop-holds
+    add-j
+    point-at-requires-3
+    point-at-requires-4
+    crosses-between-requires
     loop-less
     loop-again
-    returns)
+    returns-2)

@@ -1,6 +1,7 @@
 -- `rows::call::row` meets its contract.
 use Rattle.paving.specs.RowCall.{rowAt, rowCall}
 use mathlib.Core.Path.{_≡_, sym, _∙_, ap}
+use mathlib.Core.Bool.{true≢false}
 use native.Mathlib.Omega.{arith}
 use lib.ListN.{length}
 use Rattle.sampling.specs.State.{Lent, Lengths}
@@ -87,13 +88,13 @@ returns-3 c = let a = c .before .before .before .before .before .before .before 
 count-requires : tie.Need-count-requires
 count-requires c κs = search needs
 
-next-row-requires : tie.Need-next-row-requires
-next-row-requires c κs = let a = c .before .before .before .before .before .before .before .before .before .before .before .before .before .before .before .before .before .before .before .before .before .before .before .before .args in let b : Lent = lent (a .points .now) (a .quads .now) (a .front-nodes .now) (a .front-lengths .now) (a .counts .now) in
+row-on-requires : tie.Need-row-on-requires
+row-on-requires c κs = let a = c .before .before .before .before .before .before .before .before .before .before .before .before .before .before .before .before .before .before .before .before .before .before .before .before .args in let b : Lent = lent (a .points .now) (a .quads .now) (a .front-nodes .now) (a .front-lengths .now) (a .counts .now) in
     let j : Job = job (a .coords .now) (a .loop-lengths .now) (a .h) (a .options) in
     let e = c .before .before .before .before .before .before .before .before .before .before .before .before .before .before .before .before .input-number .ensures in
     let l = right-lengths j b _ e (c .before .before .before .before .before .before .before .before .before .before .before .before .before .before .before .if1 .left) in
     let s = sound b l (sym (c .before .before .before .before .before .before .before .before .before .wrong-state .ensures) ∙ c .before .before .before .before .before .before .before .before .if2 .left) in
-    let f = c .before .before .before .before .before .count .ensures in (s, (rw f (c .before .before .before .before .before .before .if3 .left), outline-read j b _ e (c .before .before .before .before .before .before .before .before .before .before .before .before .before .before .before .if1 .left)))
+    let f = c .before .before .before .before .before .count .ensures in (s, ((λ h. absurd (true≢false (sym h))), (rw f (c .before .before .before .before .before .before .if3 .left), outline-read j b _ e (c .before .before .before .before .before .before .before .before .before .before .before .before .before .before .before .if1 .left))))
 
 same-length-11 : tie.Need-same-length-11
 same-length-11 c = search needs
@@ -118,7 +119,7 @@ returns-4 c = let a = c .before .before .before .before .before .before .before 
     let l = right-lengths j b _ e (c .before .before .before .before .before .before .before .before .before .before .before .before .before .before .before .before .before .before .before .before .before .before .before .before .before .before .if1 .left) in
     let s = sound b l (sym (c .before .before .before .before .before .before .before .before .before .before .before .before .before .before .before .before .before .before .before .before .wrong-state .ensures) ∙ c .before .before .before .before .before .before .before .before .before .before .before .before .before .before .before .before .before .before .before .if2 .left) in
     state-stands j b (rowAt j (a .front)) _ e (c .before .before .before .before .before .before .before .before .before .before .before .before .before .before .before .before .before .before .before .before .before .before .before .before .before .before .if1 .left) _ (c .before .before .before .before .before .before .before .before .before .before .before .before .before .before .before .before .before .before .before .before .wrong-state .ensures) (c .before .before .before .before .before .before .before .before .before .before .before .before .before .before .before .before .before .before .before .if2 .left) _
-    (a-front j (a .front) b s _ (c .before .before .before .before .before .before .before .before .before .before .before .before .before .before .before .before .before .if3 .left) (rw (c .before .before .before .before .before .before .before .before .before .before .before .before .before .before .before .before .count .ensures) at (c .before .before .before .before .before .before .before .before .before .before .next-row .ensures)))
+    (a-front j (a .front) b s _ (c .before .before .before .before .before .before .before .before .before .before .before .before .before .before .before .before .before .if3 .left) (rw (c .before .before .before .before .before .before .before .before .before .before .before .before .before .before .before .before .count .ensures) at (c .before .before .before .before .before .before .before .before .before .before .row-on .ensures)))
 
 pub row-spec : {M : Type 1} → statement M
 row-spec =
@@ -141,7 +142,7 @@ row-spec =
     same-length-10
     returns-3
     count-requires
-    next-row-requires
+    row-on-requires
     same-length-11
     same-length-12
     same-length-13

@@ -1,6 +1,5 @@
 -- `rows::given::wrong_nodes` meets its contract.
 use mathlib.Core.Path.{sym, _∙_}
-use native.Mathlib.Omega.{arith}
 use Rattle.rows.proofs.Repeating.{from-both, all-below}
 use borrow.Author.Needs.{needs}
 use Rattle.rows.proofs.given.wrong_nodes.Statement.{statement}
@@ -19,7 +18,7 @@ returns-2 : tie.Need-returns-2
 returns-2 c = let a = c .before .before .before .before .before .before .args in rw (from-both (a .n) (a .quads .now) (a .nodes .now), ← c .before .before .before .some-from .ensures, c .before .before .if1 .left, ← c .before .some-from2 .ensures, c .if2 .taken)
 
 repeats-requires : tie.Need-repeats-requires
-repeats-requires c κs = λ i g. let h = all-below (c .before .before .before .before .before .before .args .n) (c .before .before .before .before .before .before .args .nodes .now) (sym (c .before .some-from2 .ensures) ∙ c .if2 .left) i g in omega (arith, h, c .before .before .before .before .before .before .pre)
+repeats-requires c κs = (c .before .before .before .before .before .before .pre, all-below (c .before .before .before .before .before .before .args .n) (c .before .before .before .before .before .before .args .nodes .now) (sym (c .before .some-from2 .ensures) ∙ c .if2 .left))
 
 returns-3 : tie.Need-returns-3
 returns-3 c = let a = c .before .before .before .before .before .before .before .args in rw (from-both (a .n) (a .quads .now) (a .nodes .now), ← c .before .before .before .before .some-from .ensures, c .before .before .before .if1 .left, ← c .before .before .some-from2 .ensures, c .before .if2 .left) (c .repeats .ensures)

@@ -1,6 +1,6 @@
 -- `rows::laying::lay_row` meets its contract.
 use mathlib.Core.Path.{_≡_, sym, _∙_, ap}
-use Prim.Native.Nat.{_*_, _≤_}
+use Prim.Native.Nat.{_≤_}
 use native.Mathlib.Omega.{arith}
 use lib.ListN.{length, take, length-take}
 use lib.Seq.{length-take-le}
@@ -32,108 +32,86 @@ slice-read-count-3 c = search needs
 count-requires-3 : tie.Need-count-requires-3
 count-requires-3 c κs = search needs
 
-slice-reshare-prefix-front-at : tie.Need-slice-reshare-prefix-front-at
-slice-reshare-prefix-front-at c = search needs
-
 slice-aggregate-front-at : tie.Need-slice-aggregate-front-at
-slice-aggregate-front-at c = let a = c .before .before .before .before .before .before .before .before .before .before .before .before .before .args in let S = c .before .before .before .before .before .before .before .before .before .before .before .before .before .pre .0 in let R = c .before .before .before .before .before .before .before .before .before .before .before .before .before .pre .1 in let e1 = c .before .before .before .before .before .count .ensures in let e2 = c .before .before .before .count2 .ensures in let e3 = c .before .count3 .ensures in
-    sym (length-take-le _ (a .front-lengths .now) (omega arith))
+slice-aggregate-front-at c = let S = c .before .before .before .before .before .before .before .before .before .before .before .before .before .pre .0 in let e = c .before .count3 .ensures in sym (length-take-le _ (c .before .before .before .before .before .before .before .before .before .before .before .before .before .args .front-lengths .now) (omega arith))
 
 front-at-requires : tie.Need-front-at-requires
-front-at-requires c κs = let a = c .before .before .before .before .before .before .before .before .before .before .before .before .before .args in let S = c .before .before .before .before .before .before .before .before .before .before .before .before .before .pre .0 in let R = c .before .before .before .before .before .before .before .before .before .before .before .before .before .pre .1 in let e1 = c .before .before .before .before .before .count .ensures in let e2 = c .before .before .before .count2 .ensures in let e3 = c .before .count3 .ensures in
+front-at-requires c κs = let a = c .before .before .before .before .before .before .before .before .before .before .before .before .before .args in let b : Lent = lent (a .points .now) (a .quads .now) (a .front-nodes .now) (a .front-lengths .now) (a .counts .now) in
+    let S = c .before .before .before .before .before .before .before .before .before .before .before .before .before .pre .0 in let R = c .before .before .before .before .before .before .before .before .before .before .before .before .before .pre .1 .1 in let e1 = c .before .before .before .before .before .count .ensures in let e2 = c .before .before .before .count2 .ensures in let e3 = c .before .count3 .ensures in
     let k : length (take (c .before .count3 .result) (a .front-lengths .now)) ≤ 16 = simp length-take (omega arith) in
     (rw e3 (R .front), k)
 
-slice-reshare-prefix-pairs-of : tie.Need-slice-reshare-prefix-pairs-of
-slice-reshare-prefix-pairs-of c = search needs
+mul-copy-points : tie.Need-mul-copy-points
+mul-copy-points c = search needs
 
-slice-aggregate-pairs-of : tie.Need-slice-aggregate-pairs-of
-slice-aggregate-pairs-of c = let a = c .before .before .before .before .before .before .before .before .before .before .before .before .before .before .before .args in let S = c .before .before .before .before .before .before .before .before .before .before .before .before .before .before .before .pre .0 in let R = c .before .before .before .before .before .before .before .before .before .before .before .before .before .before .before .pre .1 in let e1 = c .before .before .before .before .before .before .before .count .ensures in let e2 = c .before .before .before .before .before .count2 .ensures in let e3 = c .before .before .before .count3 .ensures in
-    sym (length-take-le _ (a .front-lengths .now) (omega arith))
+copy-points-requires : tie.Need-copy-points-requires
+copy-points-requires c κs = search needs
 
-pairs-of-requires : tie.Need-pairs-of-requires
-pairs-of-requires c κs = let a = c .before .before .before .before .before .before .before .before .before .before .before .before .before .before .before .args in let S = c .before .before .before .before .before .before .before .before .before .before .before .before .before .before .before .pre .0 in let R = c .before .before .before .before .before .before .before .before .before .before .before .before .before .before .before .pre .1 in let e1 = c .before .before .before .before .before .before .before .count .ensures in let e2 = c .before .before .before .before .before .count2 .ensures in let e3 = c .before .before .before .count3 .ensures in
-    simp length-take (omega arith)
-
-mul-append-points : tie.Need-mul-append-points
-mul-append-points c = search needs
-
-append-points-requires : tie.Need-append-points-requires
-append-points-requires c κs = let a = c .before .before .before .before .before .before .before .before .before .before .before .before .before .before .before .before .before .args in let S = c .before .before .before .before .before .before .before .before .before .before .before .before .before .before .before .before .before .pre .0 in let R = c .before .before .before .before .before .before .before .before .before .before .before .before .before .before .before .before .before .pre .1 in let e1 = c .before .before .before .before .before .before .before .before .before .count .ensures in let e2 = c .before .before .before .before .before .before .before .count2 .ensures in let e3 = c .before .before .before .before .before .count3 .ensures in
-    let b : Lent = lent (a .points .now) (a .quads .now) (a .front-nodes .now) (a .front-lengths .now) (a .counts .now) in
-    let fs = rw e3 at (c .before .before .before .front-at .ensures .0) in let fl = rw e3 at (c .before .before .before .front-at .ensures .1) in
-    let w = pairs-within (sizesOf b) (a .li) (R .front) in
-    omega arith
-
-mul-append-quads : tie.Need-mul-append-quads
-mul-append-quads c = search needs
+mul-put-row-quads : tie.Need-mul-put-row-quads
+mul-put-row-quads c = search needs
 
 nodes-of-requires : tie.Need-nodes-of-requires
-nodes-of-requires c κs = let a = c .before .before .before .before .before .before .before .before .before .before .before .before .before .before .before .before .before .before .before .before .before .before .args in let S = c .before .before .before .before .before .before .before .before .before .before .before .before .before .before .before .before .before .before .before .before .before .before .pre .0 in let R = c .before .before .before .before .before .before .before .before .before .before .before .before .before .before .before .before .before .before .before .before .before .before .pre .1 in let e1 = c .before .before .before .before .before .before .before .before .before .before .before .before .before .before .count .ensures in let e2 = c .before .before .before .before .before .before .before .before .before .before .before .before .count2 .ensures in let e3 = c .before .before .before .before .before .before .before .before .before .before .count3 .ensures in
-    let b : Lent = lent (a .points .now) (a .quads .now) (a .front-nodes .now) (a .front-lengths .now) (a .counts .now) in
-    let fs = rw e3 at (c .before .before .before .before .before .before .before .before .front-at .ensures .0) in let fl = rw e3 at (c .before .before .before .before .before .before .before .before .front-at .ensures .1) in
+nodes-of-requires c κs = let a = c .before .before .before .before .before .before .before .before .before .before .before .before .before .before .before .before .before .before .before .before .args in let b : Lent = lent (a .points .now) (a .quads .now) (a .front-nodes .now) (a .front-lengths .now) (a .counts .now) in
+    let S = c .before .before .before .before .before .before .before .before .before .before .before .before .before .before .before .before .before .before .before .before .pre .0 in let R = c .before .before .before .before .before .before .before .before .before .before .before .before .before .before .before .before .before .before .before .before .pre .1 .1 in let e1 = c .before .before .before .before .before .before .before .before .before .before .before .before .count .ensures in let e2 = c .before .before .before .before .before .before .before .before .before .before .count2 .ensures in let e3 = c .before .before .before .before .before .before .before .before .count3 .ensures in
+    let fs = rw e3 at (c .before .before .before .before .before .before .front-at .ensures .0) in let fl = rw e3 at (c .before .before .before .before .before .before .front-at .ensures .1) in
     let w = pairs-within (sizesOf b) (a .li) (R .front) in
     omega arith
 
-append-quads-requires : tie.Need-append-quads-requires
-append-quads-requires c κs = let a = c .before .before .before .before .before .before .before .before .before .before .before .before .before .before .before .before .before .before .before .before .before .before .before .args in let S = c .before .before .before .before .before .before .before .before .before .before .before .before .before .before .before .before .before .before .before .before .before .before .before .pre .0 in let R = c .before .before .before .before .before .before .before .before .before .before .before .before .before .before .before .before .before .before .before .before .before .before .before .pre .1 in let e1 = c .before .before .before .before .before .before .before .before .before .before .before .before .before .before .before .count .ensures in let e2 = c .before .before .before .before .before .before .before .before .before .before .before .before .before .count2 .ensures in let e3 = c .before .before .before .before .before .before .before .before .before .before .before .count3 .ensures in
-    let b : Lent = lent (a .points .now) (a .quads .now) (a .front-nodes .now) (a .front-lengths .now) (a .counts .now) in
-    let fs = rw e3 at (c .before .before .before .before .before .before .before .before .before .front-at .ensures .0) in let fl = rw e3 at (c .before .before .before .before .before .before .before .before .before .front-at .ensures .1) in
+put-row-quads-requires : tie.Need-put-row-quads-requires
+put-row-quads-requires c κs = let a = c .before .before .before .before .before .before .before .before .before .before .before .before .before .before .before .before .before .before .before .before .before .args in let b : Lent = lent (a .points .now) (a .quads .now) (a .front-nodes .now) (a .front-lengths .now) (a .counts .now) in
+    let S = c .before .before .before .before .before .before .before .before .before .before .before .before .before .before .before .before .before .before .before .before .before .pre .0 in let R = c .before .before .before .before .before .before .before .before .before .before .before .before .before .before .before .before .before .before .before .before .before .pre .1 .1 in let e1 = c .before .before .before .before .before .before .before .before .before .before .before .before .before .count .ensures in let e2 = c .before .before .before .before .before .before .before .before .before .before .before .count2 .ensures in let e3 = c .before .before .before .before .before .before .before .before .before .count3 .ensures in
+    let fs = rw e3 at (c .before .before .before .before .before .before .before .front-at .ensures .0) in let fl = rw e3 at (c .before .before .before .before .before .before .before .front-at .ensures .1) in
     let w = pairs-within (sizesOf b) (a .li) (R .front) in
     let fits : pairs (sizesOf b) ≤ length (a .front-nodes .now) = omega arith in
     let e = part-is (sizesOf b) (a .front-nodes .now) (a .li) (R .front) fits _ _ _ fs fl (c .nodes-of .ensures) in
-    let lo : length (c .nodes-of .result .now) ≡ c .before .before .before .before .before .before .before .before .before .front-at .result .len = ap length e ∙ sym (cut-length (sizesOf b) (a .front-nodes .now) (a .li) (R .front) fits _ fl) in
+    let lo : length (c .nodes-of .result .now) ≡ c .before .before .before .before .before .before .before .front-at .result .len = ap length e ∙ sym (cut-length (sizesOf b) (a .front-nodes .now) (a .li) (R .front) fits _ fl) in
     omega arith
 
-renumber-requires : tie.Need-renumber-requires
-renumber-requires c κs = let a = c .before .before .before .before .before .before .before .before .before .before .before .before .before .before .before .before .before .before .before .before .before .before .before .before .before .before .before .args in let S = c .before .before .before .before .before .before .before .before .before .before .before .before .before .before .before .before .before .before .before .before .before .before .before .before .before .before .before .pre .0 in let R = c .before .before .before .before .before .before .before .before .before .before .before .before .before .before .before .before .before .before .before .before .before .before .before .before .before .before .before .pre .1 in let e1 = c .before .before .before .before .before .before .before .before .before .before .before .before .before .before .before .before .before .before .before .count .ensures in let e2 = c .before .before .before .before .before .before .before .before .before .before .before .before .before .before .before .before .before .count2 .ensures in let e3 = c .before .before .before .before .before .before .before .before .before .before .before .before .before .before .before .count3 .ensures in
-    let b : Lent = lent (a .points .now) (a .quads .now) (a .front-nodes .now) (a .front-lengths .now) (a .counts .now) in
-    let fs = rw e3 at (c .before .before .before .before .before .before .before .before .before .before .before .before .before .front-at .ensures .0) in let fl = rw e3 at (c .before .before .before .before .before .before .before .before .before .before .before .before .before .front-at .ensures .1) in
+put-numbers-requires : tie.Need-put-numbers-requires
+put-numbers-requires c κs = let a = c .before .before .before .before .before .before .before .before .before .before .before .before .before .before .before .before .before .before .before .before .before .before .before .before .before .args in let b : Lent = lent (a .points .now) (a .quads .now) (a .front-nodes .now) (a .front-lengths .now) (a .counts .now) in
+    let S = c .before .before .before .before .before .before .before .before .before .before .before .before .before .before .before .before .before .before .before .before .before .before .before .before .before .pre .0 in let R = c .before .before .before .before .before .before .before .before .before .before .before .before .before .before .before .before .before .before .before .before .before .before .before .before .before .pre .1 .1 in let e1 = c .before .before .before .before .before .before .before .before .before .before .before .before .before .before .before .before .before .count .ensures in let e2 = c .before .before .before .before .before .before .before .before .before .before .before .before .before .before .before .count2 .ensures in let e3 = c .before .before .before .before .before .before .before .before .before .before .before .before .before .count3 .ensures in
+    let fs = rw e3 at (c .before .before .before .before .before .before .before .before .before .before .before .front-at .ensures .0) in let fl = rw e3 at (c .before .before .before .before .before .before .before .before .before .before .before .front-at .ensures .1) in
     let w = pairs-within (sizesOf b) (a .li) (R .front) in
-    let t = rw e3 at (c .before .before .before .before .before .before .before .before .before .before .before .pairs-of .ensures) in omega arith
-
-clear-nodes-requires : tie.Need-clear-nodes-requires
-clear-nodes-requires c κs = let a = c .before .before .before .before .before .before .before .before .before .before .before .before .before .before .before .before .before .before .before .before .before .before .before .before .before .before .before .before .before .before .before .args in let S = c .before .before .before .before .before .before .before .before .before .before .before .before .before .before .before .before .before .before .before .before .before .before .before .before .before .before .before .before .before .before .before .pre .0 in let R = c .before .before .before .before .before .before .before .before .before .before .before .before .before .before .before .before .before .before .before .before .before .before .before .before .before .before .before .before .before .before .before .pre .1 in let e1 = c .before .before .before .before .before .before .before .before .before .before .before .before .before .before .before .before .before .before .before .before .before .before .before .count .ensures in let e2 = c .before .before .before .before .before .before .before .before .before .before .before .before .before .before .before .before .before .before .before .before .before .count2 .ensures in let e3 = c .before .before .before .before .before .before .before .before .before .before .before .before .before .before .before .before .before .before .before .count3 .ensures in
     omega arith
 
 slice-read-row-quads : tie.Need-slice-read-row-quads
-slice-read-row-quads c = let a = c .before .before .before .before .before .before .before .before .before .before .before .before .before .before .before .before .before .before .before .before .before .before .before .before .before .before .before .before .before .before .before .before .before .before .before .args in let S = c .before .before .before .before .before .before .before .before .before .before .before .before .before .before .before .before .before .before .before .before .before .before .before .before .before .before .before .before .before .before .before .before .before .before .before .pre .0 in let R = c .before .before .before .before .before .before .before .before .before .before .before .before .before .before .before .before .before .before .before .before .before .before .before .before .before .before .before .before .before .before .before .before .before .before .before .pre .1 in omega arith
+slice-read-row-quads c = let S = c .before .before .before .before .before .before .before .before .before .before .before .before .before .before .before .before .before .before .before .before .before .before .before .before .before .before .before .before .before .pre .0 in omega arith
 
 add-row-quads : tie.Need-add-row-quads
-add-row-quads c = let a = c .before .before .before .before .before .before .before .before .before .before .before .before .before .before .before .before .before .before .before .before .before .before .before .before .before .before .before .before .before .before .before .before .before .before .before .args in let S = c .before .before .before .before .before .before .before .before .before .before .before .before .before .before .before .before .before .before .before .before .before .before .before .before .before .before .before .before .before .before .before .before .before .before .before .pre .0 in let R = c .before .before .before .before .before .before .before .before .before .before .before .before .before .before .before .before .before .before .before .before .before .before .before .before .before .before .before .before .before .before .before .before .before .before .before .pre .1 in let e1 = c .before .before .before .before .before .before .before .before .before .before .before .before .before .before .before .before .before .before .before .before .before .before .before .before .before .before .before .count .ensures in let e2 = c .before .before .before .before .before .before .before .before .before .before .before .before .before .before .before .before .before .before .before .before .before .before .before .before .before .count2 .ensures in let e3 = c .before .before .before .before .before .before .before .before .before .before .before .before .before .before .before .before .before .before .before .before .before .before .before .count3 .ensures in
-    let b : Lent = lent (a .points .now) (a .quads .now) (a .front-nodes .now) (a .front-lengths .now) (a .counts .now) in
-    let fs = rw e3 at (c .before .before .before .before .before .before .before .before .before .before .before .before .before .before .before .before .before .before .before .before .before .front-at .ensures .0) in let fl = rw e3 at (c .before .before .before .before .before .before .before .before .before .before .before .before .before .before .before .before .before .before .before .before .before .front-at .ensures .1) in
+add-row-quads c = let a = c .before .before .before .before .before .before .before .before .before .before .before .before .before .before .before .before .before .before .before .before .before .before .before .before .before .before .before .before .before .args in let b : Lent = lent (a .points .now) (a .quads .now) (a .front-nodes .now) (a .front-lengths .now) (a .counts .now) in
+    let S = c .before .before .before .before .before .before .before .before .before .before .before .before .before .before .before .before .before .before .before .before .before .before .before .before .before .before .before .before .before .pre .0 in let R = c .before .before .before .before .before .before .before .before .before .before .before .before .before .before .before .before .before .before .before .before .before .before .before .before .before .before .before .before .before .pre .1 .1 in let e1 = c .before .before .before .before .before .before .before .before .before .before .before .before .before .before .before .before .before .before .before .before .before .count .ensures in let e2 = c .before .before .before .before .before .before .before .before .before .before .before .before .before .before .before .before .before .before .before .count2 .ensures in let e3 = c .before .before .before .before .before .before .before .before .before .before .before .before .before .before .before .before .before .count3 .ensures in
+    let fs = rw e3 at (c .before .before .before .before .before .before .before .before .before .before .before .before .before .before .before .front-at .ensures .0) in let fl = rw e3 at (c .before .before .before .before .before .before .before .before .before .before .before .before .before .before .before .front-at .ensures .1) in
     let w = pairs-within (sizesOf b) (a .li) (R .front) in
     omega arith
 
 slice-read-core-quads : tie.Need-slice-read-core-quads
-slice-read-core-quads c = let a = c .before .before .before .before .before .before .before .before .before .before .before .before .before .before .before .before .before .before .before .before .before .before .before .before .before .before .before .before .before .before .before .before .before .before .before .before .args in let S = c .before .before .before .before .before .before .before .before .before .before .before .before .before .before .before .before .before .before .before .before .before .before .before .before .before .before .before .before .before .before .before .before .before .before .before .before .pre .0 in let R = c .before .before .before .before .before .before .before .before .before .before .before .before .before .before .before .before .before .before .before .before .before .before .before .before .before .before .before .before .before .before .before .before .before .before .before .before .pre .1 in omega arith
+slice-read-core-quads c = let S = c .before .before .before .before .before .before .before .before .before .before .before .before .before .before .before .before .before .before .before .before .before .before .before .before .before .before .before .before .before .before .pre .0 in omega arith
 
 slice-read-row-rounds : tie.Need-slice-read-row-rounds
-slice-read-row-rounds c = let a = c .before .before .before .before .before .before .before .before .before .before .before .before .before .before .before .before .before .before .before .before .before .before .before .before .before .before .before .before .before .before .before .before .before .before .before .before .before .args in let S = c .before .before .before .before .before .before .before .before .before .before .before .before .before .before .before .before .before .before .before .before .before .before .before .before .before .before .before .before .before .before .before .before .before .before .before .before .before .pre .0 in let R = c .before .before .before .before .before .before .before .before .before .before .before .before .before .before .before .before .before .before .before .before .before .before .before .before .before .before .before .before .before .before .before .before .before .before .before .before .before .pre .1 in omega arith
+slice-read-row-rounds c = let S = c .before .before .before .before .before .before .before .before .before .before .before .before .before .before .before .before .before .before .before .before .before .before .before .before .before .before .before .before .before .before .before .pre .0 in omega arith
 
 add-row-rounds : tie.Need-add-row-rounds
-add-row-rounds c = let a = c .before .before .before .before .before .before .before .before .before .before .before .before .before .before .before .before .before .before .before .before .before .before .before .before .before .before .before .before .before .before .before .before .before .before .before .before .before .args in let S = c .before .before .before .before .before .before .before .before .before .before .before .before .before .before .before .before .before .before .before .before .before .before .before .before .before .before .before .before .before .before .before .before .before .before .before .before .before .pre .0 in let R = c .before .before .before .before .before .before .before .before .before .before .before .before .before .before .before .before .before .before .before .before .before .before .before .before .before .before .before .before .before .before .before .before .before .before .before .before .before .pre .1 in omega arith
+add-row-rounds c = let S = c .before .before .before .before .before .before .before .before .before .before .before .before .before .before .before .before .before .before .before .before .before .before .before .before .before .before .before .before .before .before .before .pre .0 in omega arith
 
 slice-read-passes : tie.Need-slice-read-passes
-slice-read-passes c = let a = c .before .before .before .before .before .before .before .before .before .before .before .before .before .before .before .before .before .before .before .before .before .before .before .before .before .before .before .before .before .before .before .before .before .before .before .before .before .before .args in let S = c .before .before .before .before .before .before .before .before .before .before .before .before .before .before .before .before .before .before .before .before .before .before .before .before .before .before .before .before .before .before .before .before .before .before .before .before .before .before .pre .0 in let R = c .before .before .before .before .before .before .before .before .before .before .before .before .before .before .before .before .before .before .before .before .before .before .before .before .before .before .before .before .before .before .before .before .before .before .before .before .before .before .pre .1 in omega arith
+slice-read-passes c = let S = c .before .before .before .before .before .before .before .before .before .before .before .before .before .before .before .before .before .before .before .before .before .before .before .before .before .before .before .before .before .before .before .before .pre .0 in omega arith
 
 add-all : tie.Need-add-all
-add-all c = let a = c .before .before .before .before .before .before .before .before .before .before .before .before .before .before .before .before .before .before .before .before .before .before .before .before .before .before .before .before .before .before .before .before .before .before .before .before .before .before .args in let S = c .before .before .before .before .before .before .before .before .before .before .before .before .before .before .before .before .before .before .before .before .before .before .before .before .before .before .before .before .before .before .before .before .before .before .before .before .before .before .pre .0 in let R = c .before .before .before .before .before .before .before .before .before .before .before .before .before .before .before .before .before .before .before .before .before .before .before .before .before .before .before .before .before .before .before .before .before .before .before .before .before .before .pre .1 in let e1 = c .before .before .before .before .before .before .before .before .before .before .before .before .before .before .before .before .before .before .before .before .before .before .before .before .before .before .before .before .before .before .count .ensures in let e2 = c .before .before .before .before .before .before .before .before .before .before .before .before .before .before .before .before .before .before .before .before .before .before .before .before .before .before .before .before .count2 .ensures in let e3 = c .before .before .before .before .before .before .before .before .before .before .before .before .before .before .before .before .before .before .before .before .before .before .before .before .before .before .count3 .ensures in
-    let b : Lent = lent (a .points .now) (a .quads .now) (a .front-nodes .now) (a .front-lengths .now) (a .counts .now) in
-    let fs = rw e3 at (c .before .before .before .before .before .before .before .before .before .before .before .before .before .before .before .before .before .before .before .before .before .before .before .before .front-at .ensures .0) in let fl = rw e3 at (c .before .before .before .before .before .before .before .before .before .before .before .before .before .before .before .before .before .before .before .before .before .before .before .before .front-at .ensures .1) in
+add-all c = let a = c .before .before .before .before .before .before .before .before .before .before .before .before .before .before .before .before .before .before .before .before .before .before .before .before .before .before .before .before .before .before .before .before .args in let b : Lent = lent (a .points .now) (a .quads .now) (a .front-nodes .now) (a .front-lengths .now) (a .counts .now) in
+    let S = c .before .before .before .before .before .before .before .before .before .before .before .before .before .before .before .before .before .before .before .before .before .before .before .before .before .before .before .before .before .before .before .before .pre .0 in let R = c .before .before .before .before .before .before .before .before .before .before .before .before .before .before .before .before .before .before .before .before .before .before .before .before .before .before .before .before .before .before .before .before .pre .1 .1 in let e1 = c .before .before .before .before .before .before .before .before .before .before .before .before .before .before .before .before .before .before .before .before .before .before .before .before .count .ensures in let e2 = c .before .before .before .before .before .before .before .before .before .before .before .before .before .before .before .before .before .before .before .before .before .before .count2 .ensures in let e3 = c .before .before .before .before .before .before .before .before .before .before .before .before .before .before .before .before .before .before .before .before .count3 .ensures in
+    let fs = rw e3 at (c .before .before .before .before .before .before .before .before .before .before .before .before .before .before .before .before .before .before .front-at .ensures .0) in let fl = rw e3 at (c .before .before .before .before .before .before .before .before .before .before .before .before .before .before .before .before .before .before .front-at .ensures .1) in
     let w = pairs-within (sizesOf b) (a .li) (R .front) in
     omega arith
 
 add-put-counts : tie.Need-add-put-counts
-add-put-counts c = let a = c .before .before .before .before .before .before .before .before .before .before .before .before .before .before .before .before .before .before .before .before .before .before .before .before .before .before .before .before .before .before .before .before .before .before .before .before .before .before .before .args in let S = c .before .before .before .before .before .before .before .before .before .before .before .before .before .before .before .before .before .before .before .before .before .before .before .before .before .before .before .before .before .before .before .before .before .before .before .before .before .before .before .pre .0 in let R = c .before .before .before .before .before .before .before .before .before .before .before .before .before .before .before .before .before .before .before .before .before .before .before .before .before .before .before .before .before .before .before .before .before .before .before .before .before .before .before .pre .1 in let e1 = c .before .before .before .before .before .before .before .before .before .before .before .before .before .before .before .before .before .before .before .before .before .before .before .before .before .before .before .before .before .before .before .count .ensures in let e2 = c .before .before .before .before .before .before .before .before .before .before .before .before .before .before .before .before .before .before .before .before .before .before .before .before .before .before .before .before .before .count2 .ensures in let e3 = c .before .before .before .before .before .before .before .before .before .before .before .before .before .before .before .before .before .before .before .before .before .before .before .before .before .before .before .count3 .ensures in
-    let b : Lent = lent (a .points .now) (a .quads .now) (a .front-nodes .now) (a .front-lengths .now) (a .counts .now) in
-    let fs = rw e3 at (c .before .before .before .before .before .before .before .before .before .before .before .before .before .before .before .before .before .before .before .before .before .before .before .before .before .front-at .ensures .0) in let fl = rw e3 at (c .before .before .before .before .before .before .before .before .before .before .before .before .before .before .before .before .before .before .before .before .before .before .before .before .before .front-at .ensures .1) in
+add-put-counts c = let a = c .before .before .before .before .before .before .before .before .before .before .before .before .before .before .before .before .before .before .before .before .before .before .before .before .before .before .before .before .before .before .before .before .before .args in let b : Lent = lent (a .points .now) (a .quads .now) (a .front-nodes .now) (a .front-lengths .now) (a .counts .now) in
+    let S = c .before .before .before .before .before .before .before .before .before .before .before .before .before .before .before .before .before .before .before .before .before .before .before .before .before .before .before .before .before .before .before .before .before .pre .0 in let R = c .before .before .before .before .before .before .before .before .before .before .before .before .before .before .before .before .before .before .before .before .before .before .before .before .before .before .before .before .before .before .before .before .before .pre .1 .1 in let e1 = c .before .before .before .before .before .before .before .before .before .before .before .before .before .before .before .before .before .before .before .before .before .before .before .before .before .count .ensures in let e2 = c .before .before .before .before .before .before .before .before .before .before .before .before .before .before .before .before .before .before .before .before .before .before .before .count2 .ensures in let e3 = c .before .before .before .before .before .before .before .before .before .before .before .before .before .before .before .before .before .before .before .before .before .count3 .ensures in
+    let fs = rw e3 at (c .before .before .before .before .before .before .before .before .before .before .before .before .before .before .before .before .before .before .before .front-at .ensures .0) in let fl = rw e3 at (c .before .before .before .before .before .before .before .before .before .before .before .before .before .before .before .before .before .before .before .front-at .ensures .1) in
     let w = pairs-within (sizesOf b) (a .li) (R .front) in
     omega arith
 
 put-counts-requires : tie.Need-put-counts-requires
-put-counts-requires c κs = let a = c .before .before .before .before .before .before .before .before .before .before .before .before .before .before .before .before .before .before .before .before .before .before .before .before .before .before .before .before .before .before .before .before .before .before .before .before .before .before .before .args in let S = c .before .before .before .before .before .before .before .before .before .before .before .before .before .before .before .before .before .before .before .before .before .before .before .before .before .before .before .before .before .before .before .before .before .before .before .before .before .before .before .pre .0 in let R = c .before .before .before .before .before .before .before .before .before .before .before .before .before .before .before .before .before .before .before .before .before .before .before .before .before .before .before .before .before .before .before .before .before .before .before .before .before .before .before .pre .1 in S .countsLong
+put-counts-requires c κs = c .before .before .before .before .before .before .before .before .before .before .before .before .before .before .before .before .before .before .before .before .before .before .before .before .before .before .before .before .before .before .before .before .before .pre .0 .countsLong
 
 same-length : tie.Need-same-length
 same-length c = search needs
@@ -147,21 +125,15 @@ same-length-3 c = search needs
 same-length-4 : tie.Need-same-length-4
 same-length-4 c = search needs
 
-same-length-5 : tie.Need-same-length-5
-same-length-5 c = search needs
-
 returns : tie.Need-returns
-returns c = let a = c .before .before .before .before .before .before .before .before .before .before .before .before .before .before .before .before .before .before .before .before .before .before .before .before .before .before .before .before .before .before .before .before .before .before .before .before .before .before .before .before .before .before .args in let S = c .before .before .before .before .before .before .before .before .before .before .before .before .before .before .before .before .before .before .before .before .before .before .before .before .before .before .before .before .before .before .before .before .before .before .before .before .before .before .before .before .before .before .pre .0 in let R = c .before .before .before .before .before .before .before .before .before .before .before .before .before .before .before .before .before .before .before .before .before .before .before .before .before .before .before .before .before .before .before .before .before .before .before .before .before .before .before .before .before .before .pre .1 in let e1 = c .before .before .before .before .before .before .before .before .before .before .before .before .before .before .before .before .before .before .before .before .before .before .before .before .before .before .before .before .before .before .before .before .before .before .count .ensures in let e2 = c .before .before .before .before .before .before .before .before .before .before .before .before .before .before .before .before .before .before .before .before .before .before .before .before .before .before .before .before .before .before .before .before .count2 .ensures in let e3 = c .before .before .before .before .before .before .before .before .before .before .before .before .before .before .before .before .before .before .before .before .before .before .before .before .before .before .before .before .before .before .count3 .ensures in
-    let b : Lent = lent (a .points .now) (a .quads .now) (a .front-nodes .now) (a .front-lengths .now) (a .counts .now) in
-    let fs = rw e3 at (c .before .before .before .before .before .before .before .before .before .before .before .before .before .before .before .before .before .before .before .before .before .before .before .before .before .before .before .before .front-at .ensures .0) in let fl = rw e3 at (c .before .before .before .before .before .before .before .before .before .before .before .before .before .before .before .before .before .before .before .before .before .before .before .before .before .before .before .before .front-at .ensures .1) in
+returns c = let a = c .before .before .before .before .before .before .before .before .before .before .before .before .before .before .before .before .before .before .before .before .before .before .before .before .before .before .before .before .before .before .before .before .before .before .before .before .args in let b : Lent = lent (a .points .now) (a .quads .now) (a .front-nodes .now) (a .front-lengths .now) (a .counts .now) in
+    let S = c .before .before .before .before .before .before .before .before .before .before .before .before .before .before .before .before .before .before .before .before .before .before .before .before .before .before .before .before .before .before .before .before .before .before .before .before .pre .0 in let R = c .before .before .before .before .before .before .before .before .before .before .before .before .before .before .before .before .before .before .before .before .before .before .before .before .before .before .before .before .before .before .before .before .before .before .before .before .pre .1 .1 in let e1 = c .before .before .before .before .before .before .before .before .before .before .before .before .before .before .before .before .before .before .before .before .before .before .before .before .before .before .before .before .count .ensures in let e2 = c .before .before .before .before .before .before .before .before .before .before .before .before .before .before .before .before .before .before .before .before .before .before .before .before .before .before .count2 .ensures in let e3 = c .before .before .before .before .before .before .before .before .before .before .before .before .before .before .before .before .before .before .before .before .before .before .before .before .count3 .ensures in
+    let fs = rw e3 at (c .before .before .before .before .before .before .before .before .before .before .before .before .before .before .before .before .before .before .before .before .before .before .front-at .ensures .0) in let fl = rw e3 at (c .before .before .before .before .before .before .before .before .before .before .before .before .before .before .before .before .before .before .before .before .before .before .front-at .ensures .1) in
     let w = pairs-within (sizesOf b) (a .li) (R .front) in
     let fits : pairs (sizesOf b) ≤ length (a .front-nodes .now) = omega arith in
-    let e = part-is (sizesOf b) (a .front-nodes .now) (a .li) (R .front) fits _ _ _ fs fl (c .before .before .before .before .before .before .before .before .before .before .before .before .before .before .before .before .before .before .before .nodes-of .ensures) in
-    let t = rw e3 at (c .before .before .before .before .before .before .before .before .before .before .before .before .before .before .before .before .before .before .before .before .before .before .before .before .before .before .pairs-of .ensures) in
-    let hr : length (a .row .now) ≡ c .before .before .before .before .before .before .before .before .before .before .before .before .before .before .before .before .before .before .before .before .before .before .before .before .before .before .before .before .front-at .result .len * 2 = R .row ∙ ap (λ k. k * 2) (sym fl) in
-    laid-is b S (a .li) (c .before .before .before .before .before .before .before .before .before .before .before .before .before .before .before .before .before .before .before .before .before .before .before .before .before .before .before .before .front-at .result .len) (R .front) fl (a .row .now) hr
-    (rw e1 at (c .before .before .before .before .before .before .before .before .before .before .before .before .before .before .before .before .before .before .before .before .before .before .before .before .append-points .ensures)) e (rw (e1, e2) at (c .before .before .before .before .before .before .before .before .before .before .before .before .before .before .before .before .before .before .append-quads .ensures)) (rw (t, fs, e1) at (c .before .before .before .before .before .before .before .before .before .before .before .before .before .before .renumber .ensures)) (rw e3 at (c .before .before .before .before .before .before .before .before .before .before .clear-nodes .ensures))
-    (rw (e1, e2, e3) at (c .before .before .put-counts .ensures))
+    let e = part-is (sizesOf b) (a .front-nodes .now) (a .li) (R .front) fits _ _ _ fs fl (c .before .before .before .before .before .before .before .before .before .before .before .before .before .before .before .nodes-of .ensures) in
+    laid-is b S (c .before .before .before .before .before .before .before .before .before .before .before .before .before .before .before .before .before .before .before .before .before .before .before .before .before .before .before .before .before .before .before .before .before .before .before .before .pre .1 .0) (a .li) _ (a .row .now) R fl (rw e1 at (c .before .before .before .before .before .before .before .before .before .before .before .before .before .before .before .before .before .before .before .before .copy-points .ensures)) e (rw (e1, e2) at (c .before .before .before .before .before .before .before .before .before .before .before .before .before .before .put-row-quads .ensures)) (rw (fs, e1) at (c .before .before .before .before .before .before .before .before .before .before .put-numbers .ensures))
+    (rw (← e1, ← e2, ← e3) (c .before .before .put-counts .ensures))
 
 pub lay-row-spec : {M : Type 1} → statement M
 lay-row-spec =
@@ -173,19 +145,14 @@ lay-row-spec =
     count-requires-2
     slice-read-count-3
     count-requires-3
-    slice-reshare-prefix-front-at
     slice-aggregate-front-at
     front-at-requires
-    slice-reshare-prefix-pairs-of
-    slice-aggregate-pairs-of
-    pairs-of-requires
-    mul-append-points
-    append-points-requires
-    mul-append-quads
+    mul-copy-points
+    copy-points-requires
+    mul-put-row-quads
     nodes-of-requires
-    append-quads-requires
-    renumber-requires
-    clear-nodes-requires
+    put-row-quads-requires
+    put-numbers-requires
     slice-read-row-quads
     add-row-quads
     slice-read-core-quads
@@ -199,5 +166,4 @@ lay-row-spec =
     same-length-2
     same-length-3
     same-length-4
-    same-length-5
     returns)

@@ -1,22 +1,20 @@
--- `sampling::call::sample` meets its contract: the buffers are cleared first, so what they held is not seen.
-use mathlib.Core.Path.{_≡_, _∙_, sym, ap}
+-- `sampling::call::sample` meets its contract: every place is written, so what the buffers held is not seen.
+use mathlib.Core.Path.{refl, _∙_, sym, ap}
 use native.Mathlib.Omega.{arith}
-use native.Mathlib.Nat.{le-of-eq}
 use lib.ListN.{length}
-use Rattle.sampling.specs.State.{Lengths, Lent, zeros}
-use Rattle.sampling.specs.Job.{inputNumber}
-use Rattle.sampling.specs.Call.{job, lengthsOf}
+use Rattle.sampling.specs.State.{zeros}
+use Rattle.sampling.specs.Call.{job}
 use Rattle.sampling.proofs.Shape.{accepted}
 use Rattle.sampling.proofs.Calling.{same-lengths, input-refused, loop-refused, given}
 use borrow.Author.Needs.{needs}
 use Rattle.sampling.proofs.call.sample.Statement.{statement}
 use Rattle.sampling.proofs.call.sample.Tie as tie
 
-clear-all-requires : tie.Need-clear-all-requires
-clear-all-requires c κs = search needs
-
 input-number-requires : tie.Need-input-number-requires
 input-number-requires c κs = search needs
+
+clear-all-requires : tie.Need-clear-all-requires
+clear-all-requires c κs = search needs
 
 same-length : tie.Need-same-length
 same-length c = search needs
@@ -36,8 +34,7 @@ same-length-5 c = search needs
 returns : tie.Need-returns
 returns c =
     let start = c .before .before .before .before .before .before .before .before .before .before .before .before .before .before .before .before .before .before .before .before .before .before .before .before .before in
-    let clear-all = c .before .before .before .before .before .before .before .before .before .before .before .before .clear-all in
-    input-refused (job (start .args .coords .now) (start .args .loop-lengths .now) (start .args .h) (start .args .options)) _ _ _ (c .before .input-number .ensures ∙ ap (λ (l : Lengths). inputNumber (job (start .args .coords .now) (start .args .loop-lengths .now) (start .args .h) (start .args .options)) l) (same-lengths (length (clear-all .last .0)) (length (clear-all .last .1 .0)) (length (clear-all .last .1 .1 .0)) (length (clear-all .last .1 .1 .1 .0)) (length (clear-all .last .1 .1 .1 .1 .0)) (length (start .args .points .now)) (length (start .args .quads .now)) (length (start .args .front-nodes .now)) (length (start .args .front-lengths .now)) (length (start .args .counts .now)) (clear-all .kept .0) (clear-all .kept .1 .0) (clear-all .kept .1 .1 .0) (clear-all .kept .1 .1 .1 .0) (clear-all .kept .1 .1 .1 .1 .0))) (c .if1 .taken) (clear-all .ensures)
+    input-refused (job (start .args .coords .now) (start .args .loop-lengths .now) (start .args .h) (start .args .options)) _ _ _ (c .before .before .before .before .before .before .before .before .before .before .before .before .before .before .before .before .before .input-number .ensures) (c .before .before .before .before .before .before .before .before .before .before .before .before .before .before .before .before .if1 .taken) (c .before .before .before .before .before .before .before .before .before .before .clear-all .ensures)
 
 sample-loops-requires : tie.Need-sample-loops-requires
 sample-loops-requires c κs =
@@ -48,10 +45,10 @@ clear-all-requires-2 : tie.Need-clear-all-requires-2
 clear-all-requires-2 c κs = search needs
 
 same-length-6 : tie.Need-same-length-6
-same-length-6 c = c .before .before .before .before .before .before .before .before .before .before .clear-all2 .kept .0 ∙ c .before .before .before .before .before .before .before .before .before .before .before .before .before .before .before .before .before .before .before .before .before .before .before .sample-loops .kept .1 .1 .1 .1 .0 ∙ c .before .before .before .before .before .before .before .before .before .before .before .before .before .before .before .before .before .before .before .before .before .before .before .before .before .before .before .before .before .before .before .before .before .before .before .before .before .before .before .clear-all .kept .0
+same-length-6 c = search needs
 
 same-length-7 : tie.Need-same-length-7
-same-length-7 c = c .before .before .before .before .before .before .before .before .before .before .clear-all2 .kept .1 .0 ∙ c .before .before .before .before .before .before .before .before .before .before .before .before .before .before .before .before .before .before .before .before .before .before .before .before .before .before .before .before .before .before .before .before .before .before .before .before .before .before .before .clear-all .kept .1 .0
+same-length-7 c = search needs
 
 same-length-8 : tie.Need-same-length-8
 same-length-8 c = search needs
@@ -64,15 +61,37 @@ same-length-10 c = search needs
 
 returns-2 : tie.Need-returns-2
 returns-2 c =
-    let start = c .before .before .before .before .before .before .before .before .before .before .before .before .before .before .before .before .before .before .before .before .before .before .before .before .before .before .before .before .before .before .before .before .before .before .before .before .before .before .before .before .before .before .before .before .before .before .before .before .before .before .before .before in
-    let clear-all = c .before .before .before .before .before .before .before .before .before .before .before .before .before .before .before .before .before .before .before .before .before .before .before .before .before .before .before .before .before .before .before .before .before .before .before .before .before .before .before .clear-all in
+    let start = c .before .before .before .before .before .before .before .before .before .before .before .before .before .before .before .before .before .before .before .before .before .before .before .before .before .before .before .before .before .before .before .before .before .before .before .before in
     let sample-loops = c .before .before .before .before .before .before .before .before .before .before .before .before .before .before .before .before .before .before .before .before .before .before .before .sample-loops in
-    loop-refused (job (start .args .coords .now) (start .args .loop-lengths .now) (start .args .h) (start .args .options)) _ _ _ (sym (c .before .before .before .before .before .before .before .before .before .before .before .before .before .before .before .before .before .before .before .before .before .before .before .before .before .before .before .if1 .left) ∙ (c .before .before .before .before .before .before .before .before .before .before .before .before .before .before .before .before .before .before .before .before .before .before .before .before .before .before .before .before .input-number .ensures ∙ ap (λ (l : Lengths). inputNumber (job (start .args .coords .now) (start .args .loop-lengths .now) (start .args .h) (start .args .options)) l) (same-lengths (length (clear-all .last .0)) (length (clear-all .last .1 .0)) (length (clear-all .last .1 .1 .0)) (length (clear-all .last .1 .1 .1 .0)) (length (clear-all .last .1 .1 .1 .1 .0)) (length (start .args .points .now)) (length (start .args .quads .now)) (length (start .args .front-nodes .now)) (length (start .args .front-lengths .now)) (length (start .args .counts .now)) (clear-all .kept .0) (clear-all .kept .1 .0) (clear-all .kept .1 .1 .0) (clear-all .kept .1 .1 .1 .0) (clear-all .kept .1 .1 .1 .1 .0)))) (sample-loops .ensures .1 (c .before .before .before .before .before .before .before .before .before .before .before .before .before .before .before .before .if2 .taken))
+    loop-refused (job (start .args .coords .now) (start .args .loop-lengths .now) (start .args .h) (start .args .options)) _ _ _ (sym (c .before .before .before .before .before .before .before .before .before .before .before .before .before .before .before .before .before .before .before .before .before .before .before .before .before .before .before .if1 .left) ∙ c .before .before .before .before .before .before .before .before .before .before .before .before .before .before .before .before .before .before .before .before .before .before .before .before .before .before .before .before .input-number .ensures) (sample-loops .ensures .1 (c .before .before .before .before .before .before .before .before .before .before .before .before .before .before .before .before .if2 .taken))
     (c .before .before .before .before .before .before .before .before .before .before .clear-all2 .ensures
-    ∙ ap zeros (same-lengths _ _ _ _ _ (length (start .args .points .now)) (length (start .args .quads .now)) (length (start .args .front-nodes .now)) (length (start .args .front-lengths .now)) (length (start .args .counts .now)) (sample-loops .kept .1 .1 .1 .1 .0 ∙ clear-all .kept .0) (clear-all .kept .1 .0) (sample-loops .kept .1 .1 .1 .1 .1 .0 ∙ clear-all .kept .1 .1 .0) (sample-loops .kept .1 .1 .1 .1 .1 .1 .0 ∙ clear-all .kept .1 .1 .1 .0) (clear-all .kept .1 .1 .1 .1 .0)))
+    ∙ ap zeros (same-lengths _ _ _ _ _ (length (start .args .points .now)) (length (start .args .quads .now)) (length (start .args .front-nodes .now)) (length (start .args .front-lengths .now)) (length (start .args .counts .now)) (sample-loops .kept .1 .1 .1 .1 .0) refl (sample-loops .kept .1 .1 .1 .1 .1 .0) (sample-loops .kept .1 .1 .1 .1 .1 .1 .0) refl))
+
+mul-clear-floats-from : tie.Need-mul-clear-floats-from
+mul-clear-floats-from c = omega (arith, c .before .before .before .before .before .before .before .before .sample-loops .ensures .0 (c .before .if2 .left) .few)
+
+clear-floats-from-requires : tie.Need-clear-floats-from-requires
+clear-floats-from-requires c κs =
+    let s = accepted _ _ (sym (c .before .before .before .before .before .before .before .before .before .before .before .before .before .input-number .ensures) ∙ c .before .before .before .before .before .before .before .before .before .before .before .before .if1 .left) in
+    let sample-loops = c .before .before .before .before .before .before .before .before .sample-loops in
+    omega (arith, sample-loops .ensures .0 (c .before .if2 .left) .few, sample-loops .kept .1 .1 .1 .1 .0, s .points)
+
+clear-nodes-requires : tie.Need-clear-nodes-requires
+clear-nodes-requires c κs = search needs
+
+clear-nodes-from-requires : tie.Need-clear-nodes-from-requires
+clear-nodes-from-requires c κs =
+    let s = accepted _ _ (sym (c .before .before .before .before .before .before .before .before .before .before .before .before .before .before .before .before .before .before .before .before .before .input-number .ensures) ∙ c .before .before .before .before .before .before .before .before .before .before .before .before .before .before .before .before .before .before .before .before .if1 .left) in
+    let sample-loops = c .before .before .before .before .before .before .before .before .before .before .before .before .before .before .before .before .sample-loops in
+    omega (arith, sample-loops .ensures .0 (c .before .before .before .before .before .before .before .before .before .if2 .left) .few, sample-loops .kept .1 .1 .1 .1 .1 .0, s .nodes)
+
+clear-nodes-from-requires-2 : tie.Need-clear-nodes-from-requires-2
+clear-nodes-from-requires-2 c κs =
+    let s = accepted _ _ (sym (c .before .before .before .before .before .before .before .before .before .before .before .before .before .before .before .before .before .before .before .before .before .before .before .before .before .input-number .ensures) ∙ c .before .before .before .before .before .before .before .before .before .before .before .before .before .before .before .before .before .before .before .before .before .before .before .before .if1 .left) in
+    omega (arith, c .before .before .before .before .before .before .before .before .before .before .before .before .before .before .before .before .before .before .before .before .sample-loops .kept .1 .1 .1 .1 .1 .1 .0, s .few, s .fronts)
 
 put-counts-requires : tie.Need-put-counts-requires
-put-counts-requires c κs = accepted _ _ (sym (c .before .before .before .before .before .before .before .before .before .before .before .before .before .input-number .ensures) ∙ c .before .before .before .before .before .before .before .before .before .before .before .before .if1 .left) .counts
+put-counts-requires c κs = accepted _ _ (sym (c .before .before .before .before .before .before .before .before .before .before .before .before .before .before .before .before .before .before .before .before .before .before .before .before .before .before .before .before .before .input-number .ensures) ∙ c .before .before .before .before .before .before .before .before .before .before .before .before .before .before .before .before .before .before .before .before .before .before .before .before .before .before .before .before .if1 .left) .counts
 
 same-length-11 : tie.Need-same-length-11
 same-length-11 c = search needs
@@ -92,15 +111,16 @@ same-length-15 c = search needs
 returns-3 : tie.Need-returns-3
 returns-3 c =
     let start = c .before .before .before .before .before .before .before .before .before .before .before .before .before .before .before .before .before .before .before .before .before .before .before .before .before .before .before .before .before .before .before .before .before .before .before .before .before .before .before .before in
-    let clear-all = c .before .before .before .before .before .before .before .before .before .before .before .before .before .before .before .before .before .before .before .before .before .before .before .before .before .before .before .clear-all in
-    given (job (start .args .coords .now) (start .args .loop-lengths .now) (start .args .h) (start .args .options)) _ _ _ _ _ _ _ _ _ _ (c .before .before .before .before .before .before .before .before .before .before .before .sample-loops .ensures .0 (c .before .before .before .before .if2 .left)) (sym (c .before .before .before .before .before .before .before .before .before .before .before .before .before .before .before .if1 .left) ∙ (c .before .before .before .before .before .before .before .before .before .before .before .before .before .before .before .before .input-number .ensures ∙ ap (λ (l : Lengths). inputNumber (job (start .args .coords .now) (start .args .loop-lengths .now) (start .args .h) (start .args .options)) l) (same-lengths (length (clear-all .last .0)) (length (clear-all .last .1 .0)) (length (clear-all .last .1 .1 .0)) (length (clear-all .last .1 .1 .1 .0)) (length (clear-all .last .1 .1 .1 .1 .0)) (length (start .args .points .now)) (length (start .args .quads .now)) (length (start .args .front-nodes .now)) (length (start .args .front-lengths .now)) (length (start .args .counts .now)) (clear-all .kept .0) (clear-all .kept .1 .0) (clear-all .kept .1 .1 .0) (clear-all .kept .1 .1 .1 .0) (clear-all .kept .1 .1 .1 .1 .0)))) _ (clear-all .ensures) (c .before .before .put-counts .ensures)
+    let sample-loops = c .before .before .before .before .before .before .before .before .before .before .before .before .before .before .before .before .before .before .before .before .before .before .before .before .before .before .before .sample-loops in
+    given (job (start .args .coords .now) (start .args .loop-lengths .now) (start .args .h) (start .args .options)) _ _ _ _ _ (start .args .quads .now) _ _ _ _ _ _ _ _ (sample-loops .ensures .0 (c .before .before .before .before .before .before .before .before .before .before .before .before .before .before .before .before .before .before .before .before .if2 .left)) (sym (c .before .before .before .before .before .before .before .before .before .before .before .before .before .before .before .before .before .before .before .before .before .before .before .before .before .before .before .before .before .before .before .if1 .left) ∙ c .before .before .before .before .before .before .before .before .before .before .before .before .before .before .before .before .before .before .before .before .before .before .before .before .before .before .before .before .before .before .before .before .input-number .ensures) refl (sample-loops .kept .1 .1 .1 .1 .0, sample-loops .kept .1 .1 .1 .1 .1 .0, sample-loops .kept .1 .1 .1 .1 .1 .1 .0)
+    (c .before .before .before .before .before .before .before .before .before .before .before .before .before .before .before .before .before .before .clear-floats-from .ensures) (c .before .before .before .before .before .before .before .before .before .before .before .before .before .before .clear-nodes .ensures) (c .before .before .before .before .before .before .before .before .before .before .clear-nodes-from .ensures) (c .before .before .before .before .before .before .clear-nodes-from2 .ensures) (c .before .before .put-counts .ensures)
 
 pub sample-spec : {M : Type 1} → statement M
 sample-spec =
     tie.close
     (tie.spec
-    clear-all-requires
     input-number-requires
+    clear-all-requires
     same-length
     same-length-2
     same-length-3
@@ -115,6 +135,11 @@ sample-spec =
     same-length-9
     same-length-10
     returns-2
+    mul-clear-floats-from
+    clear-floats-from-requires
+    clear-nodes-requires
+    clear-nodes-from-requires
+    clear-nodes-from-requires-2
     put-counts-requires
     same-length-11
     same-length-12

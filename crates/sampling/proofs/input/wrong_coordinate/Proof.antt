@@ -1,19 +1,20 @@
--- `sampling::input::wrong_coordinate` meets its contract. The invariant: the coordinates from the ith on give the answer.
+-- `sampling::input::wrong_coordinate` meets its contract. The invariant: what was found, or the coordinates from the ith on, give the answer.
 use mathlib.Core.Path.{_≡_, refl}
+use mathlib.Core.Bool.{_||_}
 use Prim.Native.Nat.{_≤_, _-_}
 use native.Mathlib.Omega.{arith}
 use lib.ListN.{length, drop}
 use borrow.Author.Needs.{needs, scaled-fits}
 use Rattle.sampling.specs.Job.{wrongCoordinate}
-use Rattle.sampling.proofs.Walk.{found, passed, none}
+use Rattle.sampling.proofs.Walk.{one-more, none-left}
 use Rattle.sampling.proofs.input.wrong_coordinate.Statement.{statement}
 use Rattle.sampling.proofs.input.wrong_coordinate.Tie as tie
 
 abbrev Inv-loop : tie.InvT-loop
-Inv-loop limit coords i₀ i = (i ≤ length coords) × (wrongCoordinate limit (drop i coords) ≡ wrongCoordinate limit coords)
+Inv-loop limit coords wrong₀ i₀ wrong i = (i ≤ length coords) × ((wrong || wrongCoordinate limit (drop i coords)) ≡ wrongCoordinate limit coords)
 
 abbrev μ-loop : tie.MeasureT-loop
-μ-loop limit coords i₀ i = length coords - i
+μ-loop limit coords wrong₀ i₀ wrong i = length coords - i
 
 loop-holds : tie.Need-loop-holds Inv-loop μ-loop
 loop-holds c = (omega arith, refl)
@@ -27,9 +28,6 @@ shared-slice-read-wrong-number c = omega arith
 wrong-number-requires : tie.Need-wrong-number-requires Inv-loop μ-loop
 wrong-number-requires c κs = search needs
 
-returns : tie.Need-returns Inv-loop μ-loop
-returns c = found _ _ _ _ _ (c .before .before .before .before .loop .inv .1) (c .before .before .before .loop-test .taken) (c .before .wrong-number .ensures) (c .if1 .taken)
-
 add-i : tie.Need-add-i Inv-loop μ-loop
 add-i c = omega arith
 
@@ -37,10 +35,10 @@ loop-less : tie.Need-loop-less Inv-loop μ-loop
 loop-less c = omega arith
 
 loop-again : tie.Need-loop-again Inv-loop μ-loop
-loop-again c = (omega arith, passed _ _ _ _ _ (c .before .before .before .before .loop .inv .1) (c .before .before .before .loop-test .taken) (c .before .wrong-number .ensures) (c .if1 .left))
+loop-again c = (omega arith, one-more _ _ _ _ (c .before .before .before .loop .wrong) _ (c .before .before .before .loop .inv .1) (c .before .before .loop-test .taken) (c .wrong-number .ensures))
 
-returns-2 : tie.Need-returns-2 Inv-loop μ-loop
-returns-2 c = none _ _ _ (c .before .loop .inv .1) (c .loop-test .left)
+returns : tie.Need-returns Inv-loop μ-loop
+returns c = none-left _ _ _ _ (c .before .loop .inv .1) (c .loop-test .left)
 
 pub wrong-coordinate-spec : {M : Type 1} → statement M
 wrong-coordinate-spec =
@@ -52,8 +50,7 @@ wrong-coordinate-spec =
     mul-wrong-number
     shared-slice-read-wrong-number
     wrong-number-requires
-    returns
     add-i
     loop-less
     loop-again
-    returns-2)
+    returns)

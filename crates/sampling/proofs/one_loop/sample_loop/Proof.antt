@@ -1,55 +1,29 @@
--- `sampling::one_loop::sample_loop` meets its contract.
-use mathlib.Core.Path.{_≡_, _∙_, sym}
-use Prim.Native.Nat.{_+_, _*_, _≤_}
-use native.Mathlib.Nat.{le-trans, le-of-eq}
+-- `sampling::one_loop::sample_loop` meets its contract: of the points given or of those kept, the one sampling of kept points.
+use mathlib.Core.Path.{sym}
+use Prim.Native.Nat.{_*_, _≤_}
 use native.Mathlib.Omega.{arith}
-use lib.Dec.{lit<}
-use lib.ListN.{length, take}
+use lib.ListN.{length}
 use lib.Seq.{length-take-le}
 use Rattle.geometry.specs.Rings.{ringOf}
-use Rattle.sampling.proofs.Numbers.{refusal, seven, not-seven, of-loop}
+use Rattle.sampling.proofs.Stores.{front-part}
 use borrow.Author.Needs.{needs}
 use Rattle.sampling.proofs.one_loop.sample_loop.Statement.{statement}
 use Rattle.sampling.proofs.one_loop.sample_loop.Tie as tie
 
-loop-ring-requires : tie.Need-loop-ring-requires
-loop-ring-requires c κs = search needs
-
-refused-requires : tie.Need-refused-requires
-refused-requires c κs = search needs
-
-same-length : tie.Need-same-length
-same-length c = search needs
-
-returns : tie.Need-returns
-returns c =
-    let start = c .before .before .before .before .before .before .before .before .before .before .before in
-    let g = ringOf (start .args .coords .now) (start .args .n) in
-    (seven (start .args .h) (start .args .options) (start .args .before) (start .args .ccw) g _ (c .before .before .before .before .loop-ring .ensures .2) _ (c .refused .ensures) (c .before .if1 .taken), refusal _ _ (c .refused .ensures) (lit< tt))
+all-apart-requires : tie.Need-all-apart-requires
+all-apart-requires c κs = search needs
 
 mul-end : tie.Need-mul-end
 mul-end c = search needs
 
-slice-reshare-prefix-plan-and-place : tie.Need-slice-reshare-prefix-plan-and-place
-slice-reshare-prefix-plan-and-place c = search needs
+slice-aggregate-sample-kept : tie.Need-slice-aggregate-sample-kept
+slice-aggregate-sample-kept c = sym (length-take-le _ _ (c .before .before .before .before .before .before .before .before .pre .0 .0))
 
-slice-aggregate-plan-and-place : tie.Need-slice-aggregate-plan-and-place
-slice-aggregate-plan-and-place c = sym (length-take-le _ _ (omega (arith, c .before .before .before .before .before .loop-ring .kept .1 .1 .1 .0)))
+sample-kept-requires : tie.Need-sample-kept-requires
+sample-kept-requires c κs = ((sym (length-take-le _ _ (c .before .before .before .before .before .before .before .before .before .before .before .pre .0 .0)), c .before .before .before .before .before .before .before .before .before .before .before .pre .0 .1, c .before .before .before .before .before .before .before .before .before .before .before .pre .0 .3, c .before .before .before .before .before .before .before .before .before .before .before .pre .0 .4), c .before .before .before .before .before .before .before .before .before .before .before .pre .1)
 
-plan-and-place-requires : tie.Need-plan-and-place-requires
-plan-and-place-requires c κs =
-    let start = c .before .before .before .before .before .before .before .before .before .before .before .before .before .before .before in
-    let ring = c .before .before .before .before .before .before .before .before .loop-ring in
-    let k : ring .result .size * 2 ≤ ring .result .kept * 2 = omega (arith, ring .ensures .1) in (
-      (
-        le-trans k (le-of-eq (sym (length-take-le _ _ (omega (arith, ring .ensures .0, ring .kept .1 .1 .1 .0, start .pre .0))))),
-        omega (arith, c .before .before .before .before .before .if1 .left),
-        omega (arith, ring .ensures .0, ring .ensures .1, start .pre .0),
-        omega (arith, ring .ensures .0, ring .ensures .1, start .pre .0),
-        omega (arith, ring .ensures .0, ring .ensures .1, start .pre .0),
-      ),
-      start .pre .1,
-    )
+same-length : tie.Need-same-length
+same-length c = search needs
 
 same-length-2 : tie.Need-same-length-2
 same-length-2 c = search needs
@@ -57,36 +31,72 @@ same-length-2 c = search needs
 same-length-3 : tie.Need-same-length-3
 same-length-3 c = search needs
 
+returns : tie.Need-returns
+returns c = c .before .before .before .before .before .before .sample-kept .ensures (ringOf (c .before .before .before .before .before .before .before .before .before .before .before .before .before .before .before .before .before .before .args .coords .now) (c .before .before .before .before .before .before .before .before .before .before .before .before .before .before .before .before .before .before .args .n)) (c .before .before .before .before .before .before .before .before .before .before .before .before .all-apart .ensures (c .before .before .before .before .before .before .before .before .before .before .before .if1 .taken))
+
+keep-requires : tie.Need-keep-requires
+keep-requires c κs = search needs
+
+mul-end-2 : tie.Need-mul-end-2
+mul-end-2 c = search needs
+
+slice-reshare-prefix-sample-kept : tie.Need-slice-reshare-prefix-sample-kept
+slice-reshare-prefix-sample-kept c = search needs
+
+slice-aggregate-sample-kept-2 : tie.Need-slice-aggregate-sample-kept-2
+slice-aggregate-sample-kept-2 c = sym (length-take-le _ _ (omega (arith, c .before .before .before .keep .ensures .0, c .before .before .before .keep .kept .1 .1 .0, c .before .before .before .before .before .before .before .before .before .before .before .before .pre .0 .2)))
+
+sample-kept-requires-2 : tie.Need-sample-kept-requires-2
+sample-kept-requires-2 c κs =
+    let start = c .before .before .before .before .before .before .before .before .before .before .before .before .before .before .before in
+    let keep = c .before .before .before .before .before .before .keep in (
+      (
+        sym (length-take-le _ _ (omega (arith, keep .ensures .0, keep .kept .1 .1 .0, start .pre .0 .2))),
+        omega (arith, keep .ensures .0, start .pre .0 .1),
+        omega (arith, keep .ensures .0, start .pre .0 .3),
+        omega (arith, keep .ensures .0, start .pre .0 .4),
+      ),
+      start .pre .1,
+    )
+
 same-length-4 : tie.Need-same-length-4
 same-length-4 c = search needs
 
 same-length-5 : tie.Need-same-length-5
 same-length-5 c = search needs
 
+same-length-6 : tie.Need-same-length-6
+same-length-6 c = search needs
+
+same-length-7 : tie.Need-same-length-7
+same-length-7 c = search needs
+
 returns-2 : tie.Need-returns-2
 returns-2 c =
     let start = c .before .before .before .before .before .before .before .before .before .before .before .before .before .before .before .before .before .before .before .before .before .before in
-    let plan-and-place = c .before .before .before .before .before .before .plan-and-place in
-    let g = ringOf (start .args .coords .now) (start .args .n) in
-    let e = c .before .before .before .before .before .before .before .before .before .before .before .before .before .before .before .loop-ring .ensures .2 in (
-      not-seven (start .args .h) (start .args .options) (start .args .before) (start .args .ccw) g _ e _ (c .before .before .before .before .before .before .before .before .before .before .before .before .if1 .left) (plan-and-place .ensures .0),
-      λ q. of-loop (start .args .h) (start .args .options) (start .args .before) (start .args .ccw) g _ e _ _ _ _ _ (plan-and-place .ensures .1 q),
-    )
+    let keep = c .before .before .before .before .before .before .before .before .before .before .before .before .before .keep in
+    let fits : keep .result * 2 ≤ length (start .args .buffer .now) = omega (arith, keep .ensures .0, start .pre .0 .2) in
+    c .before .before .before .before .before .before .sample-kept2 .ensures (ringOf (start .args .coords .now) (start .args .n)) (front-part (start .args .buffer .now) _ _ _ fits (keep .ensures .1) (keep .ensures .2))
 
 pub sample-loop-spec : {M : Type 1} → statement M
 sample-loop-spec =
     tie.close
     (tie.spec
-    loop-ring-requires
-    refused-requires
-    same-length
-    returns
+    all-apart-requires
     mul-end
-    slice-reshare-prefix-plan-and-place
-    slice-aggregate-plan-and-place
-    plan-and-place-requires
+    slice-aggregate-sample-kept
+    sample-kept-requires
+    same-length
     same-length-2
     same-length-3
+    returns
+    keep-requires
+    mul-end-2
+    slice-reshare-prefix-sample-kept
+    slice-aggregate-sample-kept-2
+    sample-kept-requires-2
     same-length-4
     same-length-5
+    same-length-6
+    same-length-7
     returns-2)

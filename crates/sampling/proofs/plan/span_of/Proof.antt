@@ -1,14 +1,14 @@
 -- `sampling::plan::span_of` meets its contract.
 use Rattle.sampling.proofs.Literals.{zero-is}
-use borrow.Author.Needs.{needs}
+use Rattle.sampling.proofs.Bounds.{greater-is, zero-greater}
 use Rattle.sampling.proofs.plan.span_of.Statement.{statement}
 use Rattle.sampling.proofs.plan.span_of.Tie as tie
 
-greater-requires : tie.Need-greater-requires
-greater-requires c κs = search needs
-
 returns : tie.Need-returns
-returns c = rw zero-is at (c .greater .ensures)
+returns c = greater-is _ _ zero-is (c .if1 .taken)
+
+returns-2 : tie.Need-returns-2
+returns-2 c = zero-greater _ _ zero-is (c .if1 .left)
 
 pub span-of-spec : {M : Type 1} → statement M
-span-of-spec = tie.close (tie.spec greater-requires returns)
+span-of-spec = tie.close (tie.spec returns returns-2)

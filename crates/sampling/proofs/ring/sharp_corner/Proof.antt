@@ -19,11 +19,17 @@ ring-point-requires-2 c κs = search needs
 ring-point-requires-3 : tie.Need-ring-point-requires-3
 ring-point-requires-3 c κs = search needs
 
-sharp-turn-requires : tie.Need-sharp-turn-requires
-sharp-turn-requires c κs = search needs
+toward-requires : tie.Need-toward-requires
+toward-requires c κs = search needs
+
+toward-requires-2 : tie.Need-toward-requires-2
+toward-requires-2 c κs = search needs
+
+sharp-between-requires : tie.Need-sharp-between-requires
+sharp-between-requires c κs = search needs
 
 returns : tie.Need-returns
-returns c = sharp-step _ _ _ _ _ _ _ _ (c .before .before .before .before .before .before .before .before .before .before .before .before .before .prev-of .ensures .0) (c .before .before .before .before .before .before .before .before .before .before .before .before .next-of .ensures .0) (c .before .before .before .before .before .before .before .before .before .before .before .ring-point .ensures) (c .before .before .before .before .before .before .before .before .before .before .ring-point2 .ensures) (c .before .before .before .before .before .before .before .before .before .ring-point3 .ensures) (c .sharp-turn .ensures)
+returns c = sharp-step _ _ _ _ _ _ _ _ _ _ (c .before .before .before .before .before .before .before .prev-of .ensures .0) (c .before .before .before .before .before .before .next-of .ensures .0) (c .before .before .before .before .before .ring-point .ensures) (c .before .before .before .before .ring-point2 .ensures) (c .before .before .before .ring-point3 .ensures) (c .before .before .toward .ensures) (c .before .toward2 .ensures) (c .sharp-between .ensures)
 
 pub sharp-corner-spec : {M : Type 1} → statement M
 sharp-corner-spec =
@@ -34,5 +40,7 @@ sharp-corner-spec =
     ring-point-requires
     ring-point-requires-2
     ring-point-requires-3
-    sharp-turn-requires
+    toward-requires
+    toward-requires-2
+    sharp-between-requires
     returns)

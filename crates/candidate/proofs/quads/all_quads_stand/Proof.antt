@@ -1,0 +1,134 @@
+-- `candidate::quads::all_quads_stand` meets its contract. The invariant: the sides passed are long enough and the quads passed have good corners, and the turn has its rung and the rung's length. The measure is the quads left.
+use mathlib.Core.Path.{_≡_, sym, _∙_, ap}
+use mathlib.Core.Bool.{true, _&&_}
+use Prim.Native.Nat.{ℕ, _≤_, _<_, _-_}
+use native.Mathlib.Omega.{arith}
+use borrow.Author.Needs.{needs}
+use borrow.Author.Tests.{not-true, not-false}
+use lib.ListN.{length, getD}
+use Rattle.paving.specs.Row.{every}
+use Rattle.geometry.specs.Rings.{pointAt, next}
+use Rattle.geometry.specs.Measures.{sideLength}
+use Rattle.candidate.proofs.Basics.{and-false}
+use Rattle.candidate.proofs.Every.{every-none, every-more, every-stops, every-end, too-near, far-enough}
+use Rattle.candidate.proofs.Sides.{longEnough, cornersGood, next-inner, side-of, corners-of}
+use Rattle.candidate.proofs.quads.all_quads_stand.Statement.{statement}
+use Rattle.candidate.proofs.quads.all_quads_stand.Tie as tie
+
+abbrev Inv-loop : tie.InvT-loop
+Inv-loop points old row n least a₀ d₀ rung₀ i₀ a d rung i =
+    (i ≤ n) × (every (longEnough least row n) i ≡ true) × (every (cornersGood points old row n) i ≡ true)
+    × (rung ≡ sideLength a d) × (i < n → (a ≡ pointAt points (getD old i 0)) × (d ≡ pointAt row i))
+
+abbrev μ-loop : tie.MeasureT-loop
+μ-loop points old row n least a₀ d₀ rung₀ i₀ a d rung i = n - i
+
+node-point-requires : tie.Need-node-point-requires Inv-loop μ-loop
+node-point-requires c κs = let p = c .before .before .before .pre in let k : 0 < length (c .before .before .before .args .old .now) = omega arith in (k, p .1 _ k)
+
+point-at-requires : tie.Need-point-at-requires Inv-loop μ-loop
+point-at-requires c κs = omega (arith, c .before .before .before .before .pre .0)
+
+side-length-requires : tie.Need-side-length-requires Inv-loop μ-loop
+side-length-requires c κs = search needs
+
+loop-holds : tie.Need-loop-holds Inv-loop μ-loop
+loop-holds c = (omega arith, every-none _, every-none _, c .side-length .ensures, λ l. (c .before .before .node-point .ensures, c .before .point-at .ensures))
+
+next-of-requires : tie.Need-next-of-requires Inv-loop μ-loop
+next-of-requires c κs = search needs
+
+node-point-requires-2 : tie.Need-node-point-requires-2 Inv-loop μ-loop
+node-point-requires-2 c κs = let p = c .before .before .before .before .before .before .before .before .before .pre in let k : c .next-of .result < length (c .before .before .before .before .before .before .before .before .before .args .old .now) = omega (arith, p .0, c .next-of .ensures .1) in (k, p .1 _ k)
+
+point-at-requires-2 : tie.Need-point-at-requires-2 Inv-loop μ-loop
+point-at-requires-2 c κs = omega (arith, c .before .before .before .before .before .before .before .before .before .before .pre .0, c .before .next-of .ensures .1)
+
+side-length-requires-2 : tie.Need-side-length-requires-2 Inv-loop μ-loop
+side-length-requires-2 c κs = search needs
+
+returns : tie.Need-returns Inv-loop μ-loop
+returns c =
+    let a = c .before .before .before .before .before .before .before .before .before .before .before .before .before .args in
+    let t = c .before .before .before .before .before .before in
+    let l = c .before .before .before .before .before .loop-test .taken in
+    let w = t .loop .inv .4 l in
+    let s = side-of (a .row .now) (a .n) (t .loop .i) (c .before .side-length2 .ensures) (w .1) (c .before .before .point-at2 .ensures) (c .before .before .before .before .next-of .ensures .0) in
+    ap (λ b. b && every (cornersGood (a .points .now) (a .old .now) (a .row .now) (a .n)) (a .n))
+    (every-stops (longEnough (a .least) (a .row .now) (a .n)) (t .loop .i) (a .n) l (too-near (a .least) s (c .if1 .taken)))
+
+side-length-requires-3 : tie.Need-side-length-requires-3 Inv-loop μ-loop
+side-length-requires-3 c κs = search needs
+
+side-length-requires-4 : tie.Need-side-length-requires-4 Inv-loop μ-loop
+side-length-requires-4 c κs = search needs
+
+corners-stand-requires : tie.Need-corners-stand-requires Inv-loop μ-loop
+corners-stand-requires c κs = (c .before .side-length3 .ensures, c .before .before .before .side-length2 .ensures, c .before .before .before .before .before .before .before .before .loop .inv .3, c .side-length4 .ensures)
+
+returns-2 : tie.Need-returns-2 Inv-loop μ-loop
+returns-2 c =
+    let a = c .before .before .before .before .before .before .before .before .before .before .before .before .before .before .before .before .before .args in
+    let t = c .before .before .before .before .before .before .before .before .before .before in
+    let l = c .before .before .before .before .before .before .before .before .before .loop-test .taken in
+    let w = t .loop .inv .4 l in
+    let q = corners-of (a .points .now) (a .row .now) (a .old .now) (a .n) (t .loop .i) (c .before .corners-stand .ensures) (w .0) (c .before .before .before .before .before .before .before .node-point2 .ensures) (c .before .before .before .before .before .before .point-at2 .ensures) (w .1) (c .before .before .before .before .before .before .before .before .next-of .ensures .0) (not-true _ (c .if2 .taken)) in
+    let e = every-stops (cornersGood (a .points .now) (a .old .now) (a .row .now) (a .n)) (t .loop .i) (a .n) l q in
+    sym (and-false (every (longEnough (a .least) (a .row .now) (a .n)) (a .n))) ∙ ap (λ b. every (longEnough (a .least) (a .row .now) (a .n)) (a .n) && b) e
+
+add-i : tie.Need-add-i Inv-loop μ-loop
+add-i c = omega (arith, c .before .before .before .before .before .before .before .before .before .loop-test .taken, c .before .before .before .before .before .before .before .before .before .before .before .before .before .before .before .before .before .good)
+
+loop-less : tie.Need-loop-less Inv-loop μ-loop
+loop-less c = omega (arith, c .before .before .before .before .before .before .before .before .before .loop-test .taken)
+
+loop-again : tie.Need-loop-again Inv-loop μ-loop
+loop-again c =
+    let a = c .before .before .before .before .before .before .before .before .before .before .before .before .before .before .before .before .before .args in
+    let t = c .before .before .before .before .before .before .before .before .before .before in
+    let l = c .before .before .before .before .before .before .before .before .before .loop-test .taken in
+    let w = t .loop .inv .4 l in
+    let next-is = c .before .before .before .before .before .before .before .before .next-of .ensures .0 in
+    let b-is = c .before .before .before .before .before .before .before .node-point2 .ensures in
+    let c-is = c .before .before .before .before .before .before .point-at2 .ensures in
+    let s = side-of (a .row .now) (a .n) (t .loop .i) (c .before .before .before .before .before .side-length2 .ensures) (w .1) c-is next-is in
+    let q = corners-of (a .points .now) (a .row .now) (a .old .now) (a .n) (t .loop .i) (c .before .corners-stand .ensures) (w .0) b-is c-is (w .1) next-is (not-false _ (c .if2 .left)) in (
+      omega (arith, l),
+      every-more (longEnough (a .least) (a .row .now) (a .n)) (t .loop .i) (t .loop .inv .1) (far-enough (a .least) s (c .before .before .before .before .if1 .left)),
+      every-more (cornersGood (a .points .now) (a .old .now) (a .row .now) (a .n)) (t .loop .i) (t .loop .inv .2) q,
+      c .before .before .side-length4 .ensures,
+      λ m. let e = next-inner (a .n) (t .loop .i) l next-is m in
+          (b-is ∙ ap (λ (k : ℕ). pointAt (a .points .now) (getD (a .old .now) k 0)) e, c-is ∙ ap (pointAt (a .row .now)) e),
+    )
+
+returns-3 : tie.Need-returns-3 Inv-loop μ-loop
+returns-3 c =
+    let a = c .before .before .before .before .before .before .before .before .args in
+    let t = c .before in
+    let e : t .loop .i ≡ a .n = omega arith in
+    every-end (cornersGood (a .points .now) (a .old .now) (a .row .now) (a .n)) (t .loop .i) (a .n) (t .loop .inv .2) e
+    ∙ ap (λ b. b && every (cornersGood (a .points .now) (a .old .now) (a .row .now) (a .n)) (a .n)) (every-end (longEnough (a .least) (a .row .now) (a .n)) (t .loop .i) (a .n) (t .loop .inv .1) e)
+
+pub all-quads-stand-spec : {M : Type 1} → statement M
+all-quads-stand-spec =
+    tie.close
+    (tie.spec
+    Inv-loop
+    μ-loop
+    node-point-requires
+    point-at-requires
+    side-length-requires
+    loop-holds
+    next-of-requires
+    node-point-requires-2
+    point-at-requires-2
+    side-length-requires-2
+    returns
+    side-length-requires-3
+    side-length-requires-4
+    corners-stand-requires
+    returns-2
+    add-i
+    loop-less
+    loop-again
+    returns-3)

@@ -1,0 +1,67 @@
+-- `sampling::keep::all_apart` meets its contract. The invariant: the coordinates begin with the points that the definition keeps of the first k, which are all.
+use mathlib.Core.Path.{_≡_, refl, sym}
+use mathlib.Core.Bool.{true≢false}
+use Prim.Native.Nat.{_*_, _-_, _≤_}
+use native.Mathlib.Omega.{arith}
+use lib.ListN.{length}
+use lib.Seq.{sets}
+use Rattle.geometry.specs.Rings.{ringOf}
+use Rattle.sampling.specs.Loop as loops
+use Rattle.sampling.proofs.Stores.{front-part}
+use Rattle.sampling.proofs.Keeping.{apart-step}
+use Rattle.sampling.proofs.keep.all_apart.Statement.{statement}
+use Rattle.sampling.proofs.keep.all_apart.Tie as tie
+
+abbrev Inv-loop : tie.InvT-loop
+Inv-loop coords n k₀ k = (k ≤ n) × (k * 2 ≡ length (loops.kept (ringOf coords n) k)) × (coords ≡ sets coords 0 (loops.kept (ringOf coords n) k))
+
+abbrev μ-loop : tie.MeasureT-loop
+μ-loop coords n k₀ k = n - k
+
+loop-holds : tie.Need-loop-holds Inv-loop μ-loop
+unfolding loops.kept
+loop-holds c = (omega arith, refl, refl)
+
+point-at-requires : tie.Need-point-at-requires Inv-loop μ-loop
+point-at-requires c κs = omega arith
+
+close-to-last-requires : tie.Need-close-to-last-requires Inv-loop μ-loop
+close-to-last-requires c κs = omega arith
+
+returns : tie.Need-returns Inv-loop μ-loop
+returns c = λ e. absurd (true≢false (sym e))
+
+add-k : tie.Need-add-k Inv-loop μ-loop
+add-k c = omega arith
+
+loop-less : tie.Need-loop-less Inv-loop μ-loop
+loop-less c = omega arith
+
+loop-again : tie.Need-loop-again Inv-loop μ-loop
+loop-again c =
+    let start = c .before .before .before .before .before .before in
+    let l = c .before .before .before .before .loop in
+    let p = c .before .before .point-at .ensures in
+    let s = apart-step (ringOf (start .args .coords .now) (start .args .n)) (start .args .coords .now) (l .k) _ _ (l .inv .1) (l .inv .2) (omega (arith, c .before .before .before .loop-test .taken, start .pre)) p p (c .before .close-to-last .ensures) (c .if1 .left) in
+    (omega arith, s .0, s .1)
+
+returns-2 : tie.Need-returns-2 Inv-loop μ-loop
+returns-2 c =
+    let l = c .before .loop in
+    let e : l .k ≡ c .before .before .before .args .n = omega arith in
+    λ q. front-part (c .before .before .before .args .coords .now) _ _ _ (c .before .before .before .pre) (rw e at (l .inv .1)) (rw e at (l .inv .2))
+
+pub all-apart-spec : {M : Type 1} → statement M
+all-apart-spec =
+    tie.close
+    (tie.spec
+    Inv-loop
+    μ-loop
+    loop-holds
+    point-at-requires
+    close-to-last-requires
+    returns
+    add-k
+    loop-less
+    loop-again
+    returns-2)

@@ -1,0 +1,150 @@
+-- `sampling::sides::square_sides` meets its contract. The invariant: the first i sides and corners are written, and the next corner and the vector to it are at hand.
+use mathlib.Core.Path.{_≡_, refl}
+use Prim.Native.Nat.{ℕ, _-_, _≤_, _<_}
+use native.Mathlib.Nat.{not-suc-le-zero}
+use native.Mathlib.Omega.{arith}
+use lib.Ieee.{nan}
+use lib.ListN.{length, getD, length-set}
+use borrow.Author.Needs.{needs, scaled-fits}
+use Rattle.geometry.specs.Rings.{ringOf, prev}
+use Rattle.geometry.specs.Measures.{toward}
+use Rattle.sampling.specs.Loop as loops
+use Rattle.sampling.specs.Backwards.{turnedIf}
+use Rattle.sampling.specs.Side.{along, square}
+use Rattle.sampling.proofs.Stores.{table-step}
+use Rattle.sampling.proofs.Measuring.{corner, here, first-side, margin-is, square-is, sharp-is, next-side}
+use Rattle.sampling.proofs.sides.square_sides.Statement.{statement}
+use Rattle.sampling.proofs.sides.square_sides.Tie as tie
+
+abbrev Inv-loop : tie.InvT-loop
+Inv-loop pts n back h options squares₀ margins₀ b₀ d₀ i₀ squares margins b d i =
+    let r = turnedIf back (ringOf pts n) in
+    (i ≤ n)
+    × (length squares ≡ length squares₀)
+    × (length margins ≡ length margins₀)
+    × (b ≡ r .at (corner n i))
+    × (d ≡ toward (r .at (prev n (corner n i))) (r .at (corner n i)))
+    × ((k : ℕ) → k < i → getD squares k nan ≡ square (along r k))
+    × ((k : ℕ) → k < i → getD margins k nan ≡ loops.margin h options r k)
+
+abbrev μ-loop : tie.MeasureT-loop
+μ-loop pts n back h options squares₀ margins₀ b₀ d₀ i₀ squares margins b d i = n - i
+
+ring-point-requires : tie.Need-ring-point-requires Inv-loop μ-loop
+ring-point-requires c κs = (c .before .before .before .pre .0, c .before .before .before .pre .1)
+
+sub-ring-point : tie.Need-sub-ring-point Inv-loop μ-loop
+sub-ring-point c = omega arith
+
+ring-point-requires-2 : tie.Need-ring-point-requires-2 Inv-loop μ-loop
+ring-point-requires-2 c κs = (c .before .before .before .before .pre .0, omega arith)
+
+toward-requires : tie.Need-toward-requires Inv-loop μ-loop
+toward-requires c κs = search needs
+
+loop-holds : tie.Need-loop-holds Inv-loop μ-loop
+loop-holds c =
+    let start = c .before .before .before .before .before .before in (
+      omega arith,
+      refl,
+      refl,
+      rw (here (start .args .n) 0 (start .pre .1)) (c .before .before .ring-point .ensures),
+      first-side (start .args .h) (start .args .options) (turnedIf (start .args .back) (ringOf (start .args .pts .now) (start .args .n))) _ _ _ (start .pre .1) (c .before .before .ring-point .ensures) (c .before .ring-point2 .ensures) (c .toward .ensures),
+      λ k q. absurd (not-suc-le-zero q),
+      λ k q. absurd (not-suc-le-zero q),
+    )
+
+next-of-requires : tie.Need-next-of-requires Inv-loop μ-loop
+next-of-requires c κs = omega arith
+
+ring-point-requires-3 : tie.Need-ring-point-requires-3 Inv-loop μ-loop
+ring-point-requires-3 c κs = (c .before .before .before .before .before .before .before .before .before .pre .0, c .next-of .ensures .1)
+
+toward-requires-2 : tie.Need-toward-requires-2 Inv-loop μ-loop
+toward-requires-2 c κs = search needs
+
+sharp-between-requires : tie.Need-sharp-between-requires Inv-loop μ-loop
+sharp-between-requires c κs = search needs
+
+taken-requires : tie.Need-taken-requires Inv-loop μ-loop
+taken-requires c κs = search needs
+
+mul-margins : tie.Need-mul-margins Inv-loop μ-loop
+mul-margins c = scaled-fits (c .before .before .before .before .before .before .loop .i) (length (c .before .before .before .before .before .before .before .before .before .before .before .before .before .args .margins .now)) 8 (omega arith) (c .before .before .before .before .before .before .before .before .before .before .before .before .before .good .1 .1 .1 .1 .1 .1 .0 .1)
+
+slice-write-margins : tie.Need-slice-write-margins Inv-loop μ-loop
+slice-write-margins c = omega arith
+
+mul-squares : tie.Need-mul-squares Inv-loop μ-loop
+mul-squares c = scaled-fits (c .before .before .before .before .before .before .before .before .loop .i) (length (c .before .before .before .before .before .before .before .before .before .before .before .before .before .before .before .args .squares .now)) 8 (omega (arith, c .before .before .before .before .before .before .before .before .loop .inv .1, c .before .before .before .before .before .before .before .loop-test .taken, c .before .before .before .before .before .before .before .before .before .before .before .before .before .before .before .pre .2)) (c .before .before .before .before .before .before .before .before .before .before .before .before .before .before .before .good .1 .1 .1 .1 .1 .0 .1)
+
+slice-write-squares : tie.Need-slice-write-squares Inv-loop μ-loop
+slice-write-squares c = omega (arith, c .before .before .before .before .before .before .before .before .loop .inv .1, c .before .before .before .before .before .before .before .loop-test .taken, c .before .before .before .before .before .before .before .before .before .before .before .before .before .before .before .pre .2)
+
+add-i : tie.Need-add-i Inv-loop μ-loop
+add-i c = omega (arith, c .before .before .before .before .before .before .before .loop-test .taken, c .before .before .before .before .before .before .before .before .before .before .before .before .before .before .before .good .1 .0)
+
+loop-less : tie.Need-loop-less Inv-loop μ-loop
+loop-less c = omega arith
+
+loop-again : tie.Need-loop-again Inv-loop μ-loop
+loop-again c =
+    let start = c .before .before .before .before .before .before .before .before .before .before .before .before .before .before .before in
+    let l = c .before .before .before .before .before .before .before .before .loop in
+    let more = c .before .before .before .before .before .before .before .loop-test .taken in
+    let next-of = c .before .before .before .before .before .before .next-of in
+    let h = start .args .h in
+    let o = start .args .options in
+    let r = turnedIf (start .args .back) (ringOf (start .args .pts .now) (start .args .n)) in
+    let e = c .before .before .before .before .toward2 in
+    let side = square-is h o r (l .i) _ _ _ (l .d) _ more (next-of .ensures .0) (l .inv .3) (l .inv .4) (c .before .before .before .before .before .ring-point3 .ensures) (e .ensures) in
+    let sharp = sharp-is h o r (l .i) _ _ _ (l .d) _ more (next-of .ensures .0) (l .inv .3) (l .inv .4) (c .before .before .before .before .before .ring-point3 .ensures) (e .ensures) _ (c .before .before .before .sharp-between .ensures) in
+    let room : l .i < length (l .squares) = omega (arith, l .inv .1, more, start .pre .2) in
+    let room2 : l .i < length (l .margins) = omega (arith, l .inv .2, more, start .pre .3) in (
+      omega arith,
+      simp length-set (l .inv .1),
+      simp length-set (l .inv .2),
+      rw (next-of .ensures .0) at (c .before .before .before .before .before .ring-point3 .ensures),
+      next-side h o r (l .i) _ _ _ (l .d) _ more (next-of .ensures .0) (l .inv .3) (l .inv .4) (c .before .before .before .before .before .ring-point3 .ensures) (e .ensures),
+      table-step (l .squares) nan (λ (k : ℕ). square (along r k)) (l .i) _ room (l .inv .5) side,
+      table-step (l .margins) nan (loops.margin h o r) (l .i) _ room2 (l .inv .6) (margin-is h o r (l .i) _ _ sharp (c .before .before .taken .ensures)),
+    )
+
+same-length : tie.Need-same-length Inv-loop μ-loop
+same-length c = c .before .loop .inv .1
+
+same-length-2 : tie.Need-same-length-2 Inv-loop μ-loop
+same-length-2 c = c .before .loop .inv .2
+
+returns : tie.Need-returns Inv-loop μ-loop
+returns c =
+    let l = c .before .loop in
+    let e : l .i ≡ c .before .before .before .before .before .before .before .before .args .n = omega arith in
+    (rw e at (l .inv .5), rw e at (l .inv .6))
+
+pub square-sides-spec : {M : Type 1} → statement M
+square-sides-spec =
+    tie.close
+    (tie.spec
+    Inv-loop
+    μ-loop
+    ring-point-requires
+    sub-ring-point
+    ring-point-requires-2
+    toward-requires
+    loop-holds
+    next-of-requires
+    ring-point-requires-3
+    toward-requires-2
+    sharp-between-requires
+    taken-requires
+    mul-margins
+    slice-write-margins
+    mul-squares
+    slice-write-squares
+    add-i
+    loop-less
+    loop-again
+    same-length
+    same-length-2
+    returns)
