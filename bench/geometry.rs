@@ -6,6 +6,9 @@ use oracle::calls::{default_options, Job};
 use oracle::functions as rust;
 use oracle::generate::{on_circle, Random};
 
+/// So many that a stretch in which the machine is slow does not fill them.
+const ROUNDS: usize = 100;
+
 /// A rough disc of n points, its radius near 1,000.
 fn disc(r: &mut Random, n: usize) -> Vec<f64> {
     (0..n)
@@ -27,27 +30,27 @@ pub fn run() {
         [o, [o[0] + w, o[1]], [o[0] + w, o[1] + 3.0], [o[0] + 0.5, o[1] + 3.0]]
     };
     let few = 4_096;
-    line("side length", least(9, few, |i| port::side_length(at(i), at(i + 1)), |i| rust::segment_length(at(i), at(i + 1))));
+    line("side length", least(ROUNDS, few, |i| port::side_length(at(i), at(i + 1)), |i| rust::segment_length(at(i), at(i + 1))));
     line(
         "distance to a side, in paving",
-        least(9, few, |i| port::segment_distance(1e-18, at(i), at(i + 1), at(i + 2)), |i| rust::paving_segment_distance(at(i), at(i + 1), at(i + 2))),
+        least(ROUNDS, few, |i| port::segment_distance(1e-18, at(i), at(i + 1), at(i + 2)), |i| rust::paving_segment_distance(at(i), at(i + 1), at(i + 2))),
     );
     line(
         "distance to a side, in the domain",
-        least(9, few, |i| port::segment_distance(0.0, at(i), at(i + 1), at(i + 2)), |i| rust::domain_segment_distance(at(i), at(i + 1), at(i + 2))),
+        least(ROUNDS, few, |i| port::segment_distance(0.0, at(i), at(i + 1), at(i + 2)), |i| rust::domain_segment_distance(at(i), at(i + 1), at(i + 2))),
     );
     line(
         "segments cross",
         least(
-            9,
+            ROUNDS,
             few,
             |i| port::segments_cross([at(i), at(i + 1), at(i + 2), at(i + 3)]),
             |i| rust::segments_cross(at(i), at(i + 1), at(i + 2), at(i + 3)),
         ),
     );
-    line("corner test, good quads", least(9, few, |i| port::corners_pass(quad(i)), |i| rust::quad_ok(quad(i))));
-    line("least corner", least(9, few, |i| port::least_corner(quad(i)), |i| rust::least_corner(quad(i))));
-    line("area of a quad", least(9, few, |i| port::quad_area(quad(i)), |i| rust::signed_quad_area(quad(i))));
+    line("corner test, good quads", least(ROUNDS, few, |i| port::corners_pass(quad(i)), |i| rust::quad_ok(quad(i))));
+    line("least corner", least(ROUNDS, few, |i| port::least_corner(quad(i)), |i| rust::least_corner(quad(i))));
+    line("area of a quad", least(ROUNDS, few, |i| port::quad_area(quad(i)), |i| rust::signed_quad_area(quad(i))));
     for n in [4, 64, 1_024] {
         let coords = disc(r, n);
         let points: Vec<Point> = coords.chunks_exact(2).map(|p| [p[0], p[1]]).collect();
@@ -59,17 +62,17 @@ pub fn run() {
         let front = rust::Front::new(&points, &wide);
         let m = 400_000 / (n + 40);
         let name = |what: &str| format!("{what}, {n} points");
-        line(&name("area of a ring"), least(9, m, |_| port::signed_area(&coords), |_| rust::signed_area(&points)));
-        line(&name("point in polygon"), least(9, m, |i| port::in_polygon(at(i), &coords), |i| rust::point_in_polygon(at(i), &points)));
-        line(&name("sharp at a place"), least(9, m, |i| port::sharp_at(&coords, i % n), |i| rust::sharp(&points, i % n)));
-        line(&name("area of the domain"), least(9, m, |_| port::domain_area(&coords, &lengths), |_| plate.area()));
-        line(&name("domain contains"), least(9, m, |i| port::contains(at(i), &coords, &lengths), |i| plate.contains(at(i))));
+        line(&name("area of a ring"), least(ROUNDS, m, |_| port::signed_area(&coords), |_| rust::signed_area(&points)));
+        line(&name("point in polygon"), least(ROUNDS, m, |i| port::in_polygon(at(i), &coords), |i| rust::point_in_polygon(at(i), &points)));
+        line(&name("sharp at a place"), least(ROUNDS, m, |i| port::sharp_at(&coords, i % n), |i| rust::sharp(&points, i % n)));
+        line(&name("area of the domain"), least(ROUNDS, m, |_| port::domain_area(&coords, &lengths), |_| plate.area()));
+        line(&name("domain contains"), least(ROUNDS, m, |i| port::contains(at(i), &coords, &lengths), |i| plate.contains(at(i))));
         line(
             &name("distance to boundary"),
-            least(9, m, |i| port::distance_to_boundary(at(i), &coords, &lengths), |i| plate.distance_to_boundary(at(i))),
+            least(ROUNDS, m, |i| port::distance_to_boundary(at(i), &coords, &lengths), |i| plate.distance_to_boundary(at(i))),
         );
-        line(&name("length of a front"), least(9, m, |_| port::front_length(&coords, &nodes), |_| front.length()));
-        line(&name("distance to a front"), least(9, m, |i| port::front_distance(at(i), &coords, &nodes), |i| front.distance(at(i))));
-        line(&name("within a front"), least(9, m, |i| port::in_front(at(i), &coords, &nodes), |i| front.contains(at(i))));
+        line(&name("length of a front"), least(ROUNDS, m, |_| port::front_length(&coords, &nodes), |_| front.length()));
+        line(&name("distance to a front"), least(ROUNDS, m, |i| port::front_distance(at(i), &coords, &nodes), |i| front.distance(at(i))));
+        line(&name("within a front"), least(ROUNDS, m, |i| port::in_front(at(i), &coords, &nodes), |i| front.contains(at(i))));
     }
 }

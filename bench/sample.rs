@@ -58,6 +58,12 @@ pub fn run() {
     for (name, jobs) in &sets {
         compare(&format!("{} jobs, {name}", jobs.len()), jobs);
     }
+    // finely given outlines: most sides get no inner point
+    for n in [64, 200, 1_000, 2_000] {
+        let xy = (0..n).flat_map(|k| generate::on_circle(k as f64, n as f64).map(|c| 50_000.0 * c)).collect();
+        let circle = Job { xy, lengths: vec![n], h: 1_000.0, options: default_options() };
+        compare(&format!("circle of {n} points"), &(0..50).map(|_| work(circle.clone())).collect::<Vec<_>>());
+    }
     // plans far beyond the limit: refused with 10 before anything is placed
     let square = vec![-1e6, -1e6, 1e6, -1e6, 1e6, 1e6, -1e6, 1e6];
     let long = Job { xy: square, lengths: vec![4], h: 0.001, options: default_options() };

@@ -1,5 +1,6 @@
--- The loop that tests one node number after the other.
+-- The loop that tests every node number.
 use mathlib.Core.Path.{_≡_, refl, sym, ap, _∙_}
+use mathlib.Core.Logic.{inl, inr}
 use mathlib.Core.Bool.{Bool, true, false, _&&_, true≢false}
 use mathlib.Core.List.{List, [], _∷_}
 use Prim.Native.Nat.{ℕ, zero, suc, _+_, _*_, _/_, _≤_, _<_}
@@ -11,23 +12,35 @@ use lib.Seq.{drop-cons}
 use lib.Dec.{ltb}
 use lib.Ieee.{Float}
 use borrow.Author.Tests.{lt-ltb, le-ltb, ltb-true}
+use Rattle.float.proofs.Patterns.{here-or-on}
 use Rattle.exports.specs.Fronts.{nodesFit}
+
+regrouped : (a b c : Bool) → (a && (b && c)) ≡ ((a && b) && c)
+regrouped true b c = refl
+regrouped false b c = refl
 
 module _ (p : List Float) (nodes : List ℕ) (i n : ℕ) (some : i < length nodes) (hn : n ≡ getD nodes i 0) where
   one-less : drop i nodes ≡ n ∷ drop (i + 1) nodes
   one-less = rw (add-one, hn) (drop-cons nodes i 0 some)
 
-  pub node-beyond : (t : Bool) → t ≡ nodesFit p (drop i nodes) → length p / 2 ≤ n → false ≡ t
-  unfolding nodesFit
-  node-beyond t e h = sym (e ∙ ap (nodesFit p) one-less ∙ rw (le-ltb (n * 2 + 1) (length p) (omega arith)))
+  tests-agree : ltb n (length p / 2) ≡ ltb (n * 2 + 1) (length p)
+  tests-agree =
+      elim (here-or-on n (length p / 2)) [
+        | inl h ↦ lt-ltb n (length p / 2) h ∙ sym (lt-ltb (n * 2 + 1) (length p) (omega arith))
+        | inr h ↦ le-ltb n (length p / 2) h ∙ sym (le-ltb (n * 2 + 1) (length p) (omega arith))
+      ]
 
-  pub node-within : (t : Bool) → t ≡ nodesFit p (drop i nodes) → n < length p / 2 → t ≡ nodesFit p (drop (i + 1) nodes)
+  pub one-tested : (t fit : Bool) → t ≡ (fit && nodesFit p (drop i nodes)) → t ≡ ((fit && ltb n (length p / 2)) && nodesFit p (drop (i + 1) nodes))
   unfolding nodesFit
-  node-within t e h = e ∙ ap (nodesFit p) one-less ∙ rw (lt-ltb (n * 2 + 1) (length p) (omega arith))
+  one-tested t fit e = e ∙ ap (λ (l : List ℕ). fit && nodesFit p l) one-less ∙ rw tests-agree (regrouped fit (ltb (n * 2 + 1) (length p)) (nodesFit p (drop (i + 1) nodes)))
 
-pub nodes-end : (p : List Float) (nodes : List ℕ) (i : ℕ) (t : Bool) → length nodes ≤ i → t ≡ nodesFit p (drop i nodes) → true ≡ t
+pub all-tested : (p : List Float) (nodes : List ℕ) (i : ℕ) (t fit : Bool) → length nodes ≤ i → t ≡ (fit && nodesFit p (drop i nodes)) → fit ≡ t
 unfolding nodesFit
-nodes-end p nodes i t h e = sym (e ∙ rw (drop-of-length-le nodes h))
+all-tested p nodes i t fit h e = sym (e ∙ rw (drop-of-length-le nodes h) (whole fit))
+  where
+    whole : (b : Bool) → (b && true) ≡ b
+    whole true = refl
+    whole false = refl
 
 and-first : (s t : Bool) → (s && t) ≡ true → s ≡ true
 and-first true t e = refl

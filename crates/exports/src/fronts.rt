@@ -9,14 +9,13 @@ fn nodes_fit(points: &[f64], nodes: &[u16]) -> bool
     ensures { λ r. ⌜ r ≡ nodesFit (now (points .entry)) (now (nodes .entry)) ⌝ }
 {
     let n = points.len() / 2;
+    let mut fit = true;
     let mut i = 0usize;
     while i < nodes.len() {
-        if n <= geometry::wide(nodes[i]) {
-            return false;
-        }
+        fit = fit & (geometry::wide(nodes[i]) < n);
         i += 1;
     }
-    true
+    fit
 }
 
 // The length of a front; NaN where a node number is not that of a point.

@@ -7,7 +7,6 @@ ghost use Rattle.float.specs.Root.{root as rootOf, wholeRoot};
 use near::near_digits;
 
 mod near;
-mod starts;
 
 // `x.abs()`
 pub fn absolute(x: f64) -> f64

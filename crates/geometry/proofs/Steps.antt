@@ -1,6 +1,6 @@
 -- The steps of the loops over a ring's sides, said once for every ring.
 use mathlib.Core.Path.{_≡_, refl, sym, ap, _∙_}
-use mathlib.Core.Bool.{Bool, true, false, not, cond, Bool·beq}
+use mathlib.Core.Bool.{Bool, true, false, not, cond, Bool·beq, true≢false}
 use Prim.Native.Nat.{ℕ, _+_, _-_, _<_}
 use native.Mathlib.Numerals.{add-one}
 use native.Mathlib.Omega.{arith}
@@ -11,6 +11,7 @@ use Rattle.geometry.specs.declared.Point.{Point}
 use Rattle.geometry.specs.Rings.{Ring, next, prev}
 use Rattle.geometry.specs.Measures.{toward, cross, dot, sharpTurn, sharpAt, areaTerm, areaSum, sideLength, lengthSum, rayCrosses, insideSoFar, inPolygon}
 use Rattle.geometry.specs.Squares.{segmentSquare, nearer, leastSquare}
+use Rattle.geometry.proofs.Choices.{ray-beside}
 
 turned : (s t : Bool) → not (Bool·beq s t) ≡ cond t (not s) s
 turned true true = refl
@@ -107,6 +108,22 @@ module _ {p : Point} {r : Ring} {i : ℕ} {inside below : Bool} (so-far : Counte
         test = rw hb;
         count = rw (so-far .count, ← crossing-step r i a b ends p (insideSoFar p r i) t refl ht) (swapped closing (insideSoFar p r i) t);
       }
+
+  -- a side whose ends are both above or both below
+  pub one-beside : (b : Point) → i < r .size - 1 → b ≡ r .at (i + 1) → not (Bool·beq below (lt (p .y) (b .y))) ≡ false → Counted p r (i + 1) inside below
+  one-beside b h hb e =
+      let k = alike below (lt (p .y) (b .y)) e in
+      rw (kept inside, k .1) at (one-counted (r .at i) b false h refl hb (ray-beside p (r .at i) b below (lt (p .y) (b .y)) (so-far .test, refl) (k .0)))
+    where
+      alike : (u v : Bool) → not (Bool·beq u v) ≡ false → (Bool·beq u v ≡ true) × (v ≡ u)
+      alike true true h = (refl, refl)
+      alike true false h = absurd (true≢false h)
+      alike false true h = absurd (true≢false h)
+      alike false false h = (refl, refl)
+
+      kept : (t : Bool) → not (Bool·beq t false) ≡ t
+      kept true = refl
+      kept false = refl
 
   pub all-counted : 0 < r .size → i ≡ r .size - 1 → inside ≡ inPolygon p r
   unfolding inPolygon

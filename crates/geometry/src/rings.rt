@@ -51,7 +51,8 @@ pub fn signed_area(pts: &[f64], n: usize) -> f64
     (sum + area_term(a, first)) / 2.0
 }
 
-// Whether `p` is within the ring of the first `n` points: the closing side first, then side by side, with the test of an end kept for the next side.
+// Whether `p` is within the ring of the first `n` points: the closing side first, then side by side. The test of an end is kept for
+// the next side, and a side whose ends are both above or both below is passed by.
 pub fn in_polygon(p: Point, pts: &[f64], n: usize) -> bool
     requires { ⌜ n * 2 ≤ length (now pts) ⌝ }
     ensures { λ r. ⌜ r ≡ inPolygon p (ringOf (now (pts .entry)) n) ⌝ }
@@ -67,11 +68,13 @@ pub fn in_polygon(p: Point, pts: &[f64], n: usize) -> bool
     let mut i = 0usize;
     while i < last {
         let j = i + 1;
-        let a = point_at(pts, i);
         let b = point_at(pts, j);
         let below_b = p.y < b.y;
-        inside = inside != crosses_between(p, a, b, below, below_b);
-        below = below_b;
+        if below != below_b {
+            let a = point_at(pts, i);
+            inside = inside != crosses_between(p, a, b, below, below_b);
+            below = below_b;
+        }
         i = j;
     }
     inside
@@ -112,7 +115,7 @@ pub fn front_length(pts: &[f64], nodes: &[u16]) -> f64
     sum
 }
 
-// Whether `p` is within a front: as `in_polygon`.
+// Whether `p` is within a front, in the same way.
 pub fn in_front(p: Point, pts: &[f64], nodes: &[u16]) -> bool
     requires { ⌜ ((i : ℕ) → i < length (now nodes) → getD (now nodes) i 0 * 2 + 1 < length (now pts)) ⌝ }
     ensures { λ r. ⌜ r ≡ inPolygon p (nodeRing (now (pts .entry)) (now (nodes .entry))) ⌝ }
@@ -129,11 +132,13 @@ pub fn in_front(p: Point, pts: &[f64], nodes: &[u16]) -> bool
     let mut i = 0usize;
     while i < last {
         let j = i + 1;
-        let a = node_point(pts, nodes, i);
         let b = node_point(pts, nodes, j);
         let below_b = p.y < b.y;
-        inside = inside != crosses_between(p, a, b, below, below_b);
-        below = below_b;
+        if below != below_b {
+            let a = node_point(pts, nodes, i);
+            inside = inside != crosses_between(p, a, b, below, below_b);
+            below = below_b;
+        }
         i = j;
     }
     inside

@@ -5,7 +5,7 @@ use lib.ListN.{length}
 use native.Mathlib.Omega.{arith}
 use borrow.Author.Needs.{needs}
 use Rattle.geometry.specs.Rings.{nodeRing}
-use Rattle.geometry.proofs.Steps.{Counted, all-counted, closing-counted, no-sides, one-counted, test-at}
+use Rattle.geometry.proofs.Steps.{Counted, all-counted, closing-counted, no-sides, one-beside, one-counted, test-at}
 use Rattle.geometry.proofs.rings.in_front.Statement.{statement}
 use Rattle.geometry.proofs.rings.in_front.Tie as tie
 
@@ -23,9 +23,9 @@ sub-last c = omega (arith, c .if1 .left)
 
 node-point-requires : tie.Need-node-point-requires Inv-loop μ-loop
 node-point-requires c κs =
-    let nodes = c .before .before .before .args .nodes .now in
-    let h : length nodes - 1 < length nodes = omega (arith, c .if1 .left) in
-    (h, c .before .before .before .pre _ h)
+    let s = c .before .before .before in
+    let h : length (s .args .nodes .now) - 1 < length (s .args .nodes .now) = omega (arith, c .if1 .left) in
+    (h, s .pre _ h)
 
 node-point-requires-2 : tie.Need-node-point-requires-2 Inv-loop μ-loop
 node-point-requires-2 c κs =
@@ -47,26 +47,33 @@ add-j c = omega arith
 node-point-requires-3 : tie.Need-node-point-requires-3 Inv-loop μ-loop
 node-point-requires-3 c κs =
     let s = c .before .before .before .before .before .before .before .before .before .before in
-    let h : c .before .loop .i < length (s .args .nodes .now) = omega arith in
+    let h : c .before .loop .i + 1 < length (s .args .nodes .now) = omega arith in
     (h, s .pre _ h)
 
 node-point-requires-4 : tie.Need-node-point-requires-4 Inv-loop μ-loop
 node-point-requires-4 c κs =
-    let s = c .before .before .before .before .before .before .before .before .before .before .before in
-    let h : c .before .before .loop .i + 1 < length (s .args .nodes .now) = omega arith in
+    let s = c .before .before .before .before .before .before .before .before .before .before .before .before .before .before in
+    let h : c .before .before .before .before .before .loop .i < length (s .args .nodes .now) = omega arith in
     (h, s .pre _ h)
 
 crosses-between-requires : tie.Need-crosses-between-requires Inv-loop μ-loop
-crosses-between-requires c κs = let d = c .before .before .before in (test-at (d .before .before .loop .inv .1) _ (d .node-point3 .ensures), refl)
+crosses-between-requires c κs = (test-at (c .before .before .before .before .before .before .loop .inv .1) _ (c .node-point4 .ensures), refl)
 
 loop-less : tie.Need-loop-less Inv-loop μ-loop
 loop-less c = omega arith
 
 loop-again : tie.Need-loop-again Inv-loop μ-loop
 loop-again c =
+    let d = c .before .before .before .before .before in
+    (omega arith, one-counted (d .before .before .loop .inv .1) _ _ _ (d .before .loop-test .taken) (c .before .node-point4 .ensures) (d .node-point3 .ensures) (c .crosses-between .ensures))
+
+loop-less-2 : tie.Need-loop-less-2 Inv-loop μ-loop
+loop-less-2 c = omega arith
+
+loop-again-2 : tie.Need-loop-again-2 Inv-loop μ-loop
+loop-again-2 c =
     let d = c .before .before .before in
-    let so-far = d .before .before .before .loop .inv .1 in
-    (omega arith, one-counted so-far _ _ _ (d .before .before .loop-test .taken) (d .before .node-point3 .ensures) (d .node-point4 .ensures) (c .crosses-between .ensures))
+    (omega arith, one-beside (d .before .before .loop .inv .1) _ (d .before .loop-test .taken) (d .node-point3 .ensures) (c .if2 .left))
 
 returns-2 : tie.Need-returns-2 Inv-loop μ-loop
 returns-2 c =
@@ -91,4 +98,6 @@ in-front-spec =
     crosses-between-requires
     loop-less
     loop-again
+    loop-less-2
+    loop-again-2
     returns-2)

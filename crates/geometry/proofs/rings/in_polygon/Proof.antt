@@ -4,7 +4,7 @@ use Prim.Native.Nat.{_≤_, _-_}
 use native.Mathlib.Omega.{arith}
 use borrow.Author.Needs.{needs}
 use Rattle.geometry.specs.Rings.{ringOf}
-use Rattle.geometry.proofs.Steps.{Counted, all-counted, closing-counted, no-sides, one-counted, test-at}
+use Rattle.geometry.proofs.Steps.{Counted, all-counted, closing-counted, no-sides, one-beside, one-counted, test-at}
 use Rattle.geometry.proofs.rings.in_polygon.Statement.{statement}
 use Rattle.geometry.proofs.rings.in_polygon.Tie as tie
 
@@ -44,16 +44,23 @@ point-at-requires-4 : tie.Need-point-at-requires-4 Inv-loop μ-loop
 point-at-requires-4 c κs = omega arith
 
 crosses-between-requires : tie.Need-crosses-between-requires Inv-loop μ-loop
-crosses-between-requires c κs = let d = c .before .before .before in (test-at (d .before .before .loop .inv .1) _ (d .point-at3 .ensures), refl)
+crosses-between-requires c κs = (test-at (c .before .before .before .before .before .before .loop .inv .1) _ (c .point-at4 .ensures), refl)
 
 loop-less : tie.Need-loop-less Inv-loop μ-loop
 loop-less c = omega arith
 
 loop-again : tie.Need-loop-again Inv-loop μ-loop
 loop-again c =
+    let d = c .before .before .before .before .before in
+    (omega arith, one-counted (d .before .before .loop .inv .1) _ _ _ (d .before .loop-test .taken) (c .before .point-at4 .ensures) (d .point-at3 .ensures) (c .crosses-between .ensures))
+
+loop-less-2 : tie.Need-loop-less-2 Inv-loop μ-loop
+loop-less-2 c = omega arith
+
+loop-again-2 : tie.Need-loop-again-2 Inv-loop μ-loop
+loop-again-2 c =
     let d = c .before .before .before in
-    let so-far = d .before .before .before .loop .inv .1 in
-    (omega arith, one-counted so-far _ _ _ (d .before .before .loop-test .taken) (d .before .point-at3 .ensures) (d .point-at4 .ensures) (c .crosses-between .ensures))
+    (omega arith, one-beside (d .before .before .loop .inv .1) _ (d .before .loop-test .taken) (d .point-at3 .ensures) (c .if2 .left))
 
 returns-2 : tie.Need-returns-2 Inv-loop μ-loop
 returns-2 c =
@@ -78,4 +85,6 @@ in-polygon-spec =
     crosses-between-requires
     loop-less
     loop-again
+    loop-less-2
+    loop-again-2
     returns-2)
