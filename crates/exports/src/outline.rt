@@ -36,6 +36,7 @@ pub extern "C" fn pave_domain_area(coords: &[f64], loop_lengths: &[u16]) -> f64
         return geometry::signed_area(coords, n) - -0.0;
     }
     if loops_fit(coords, loop_lengths) {
+        // with names of their own, so that the way of one loop puts nothing on the stack
         let all = coords;
         let lengths = loop_lengths;
         return geometry::domain_area(all, lengths);
