@@ -30,7 +30,10 @@ front-distance-requires : tie.Need-front-distance-requires Inv-loop μ-loop
 front-distance-requires c κs = search needs
 
 returns : tie.Need-returns Inv-loop μ-loop
-returns c = let a = c .before .before .before .before .before .before .before .before .args in every-stops _ _ _ (c .before .before .before .loop-test .taken) (too-near _ (moved (λ (p : Point). ringDistance (inf false) p (nodeRing (a .points .now) (a .nodes .now)) (length (a .nodes .now))) (c .before .front-distance .ensures) (c .before .before .point-at .ensures)) (c .if1 .taken))
+returns c =
+    let at-loop-test : tie.In-loop Inv-loop μ-loop = search in
+    let entry : tie.Start Inv-loop μ-loop = search in
+    let a = entry .args in every-stops _ _ _ (at-loop-test .loop-test .taken) (too-near _ (moved (λ (p : Point). ringDistance (inf false) p (nodeRing (a .points .now) (a .nodes .now)) (length (a .nodes .now))) (c .before .front-distance .ensures) (c .before .before .point-at .ensures)) (c .if1 .taken))
 
 add-i : tie.Need-add-i Inv-loop μ-loop
 add-i c = omega arith
@@ -39,7 +42,10 @@ loop-less : tie.Need-loop-less Inv-loop μ-loop
 loop-less c = omega arith
 
 loop-again : tie.Need-loop-again Inv-loop μ-loop
-loop-again c = let a = c .before .before .before .before .before .before .before .before .args in (omega arith, every-more _ _ (c .before .before .before .before .loop .inv .1) (far-enough _ (moved (λ (p : Point). ringDistance (inf false) p (nodeRing (a .points .now) (a .nodes .now)) (length (a .nodes .now))) (c .before .front-distance .ensures) (c .before .before .point-at .ensures)) (c .if1 .left)))
+loop-again c =
+    let at-loop : tie.At-loop Inv-loop μ-loop = search in
+    let entry : tie.Start Inv-loop μ-loop = search in
+    let a = entry .args in (omega arith, every-more _ _ (at-loop .loop .inv .1) (far-enough _ (moved (λ (p : Point). ringDistance (inf false) p (nodeRing (a .points .now) (a .nodes .now)) (length (a .nodes .now))) (c .before .front-distance .ensures) (c .before .before .point-at .ensures)) (c .if1 .left)))
 
 returns-2 : tie.Need-returns-2 Inv-loop μ-loop
 returns-2 c = every-end _ _ _ (c .before .loop .inv .1) (omega arith)

@@ -27,7 +27,9 @@ distance-to-boundary-requires : tie.Need-distance-to-boundary-requires Inv-loop 
 distance-to-boundary-requires c κs = omega arith
 
 returns : tie.Need-returns Inv-loop μ-loop
-returns c = every-stops _ _ _ (c .before .before .before .loop-test .taken) (too-near _ (moved (distanceToBoundary _) (c .before .distance-to-boundary .ensures) (c .before .before .point-at .ensures)) (c .if1 .taken))
+returns c =
+    let at-loop-test : tie.In-loop Inv-loop μ-loop = search in
+    every-stops _ _ _ (at-loop-test .loop-test .taken) (too-near _ (moved (distanceToBoundary _) (c .before .distance-to-boundary .ensures) (c .before .before .point-at .ensures)) (c .if1 .taken))
 
 add-i : tie.Need-add-i Inv-loop μ-loop
 add-i c = omega arith
@@ -36,7 +38,9 @@ loop-less : tie.Need-loop-less Inv-loop μ-loop
 loop-less c = omega arith
 
 loop-again : tie.Need-loop-again Inv-loop μ-loop
-loop-again c = (omega arith, every-more _ _ (c .before .before .before .before .loop .inv .1) (far-enough _ (moved (distanceToBoundary _) (c .before .distance-to-boundary .ensures) (c .before .before .point-at .ensures)) (c .if1 .left)))
+loop-again c =
+    let at-loop : tie.At-loop Inv-loop μ-loop = search in
+    (omega arith, every-more _ _ (at-loop .loop .inv .1) (far-enough _ (moved (distanceToBoundary _) (c .before .distance-to-boundary .ensures) (c .before .before .point-at .ensures)) (c .if1 .left)))
 
 returns-2 : tie.Need-returns-2 Inv-loop μ-loop
 returns-2 c = every-end _ _ _ (c .before .loop .inv .1) (omega arith)

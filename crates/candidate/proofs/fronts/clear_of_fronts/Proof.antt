@@ -37,20 +37,37 @@ wide-requires : tie.Need-wide-requires Inv-loop μ-loop
 wide-requires c κs = search needs
 
 nodes-of-requires : tie.Need-nodes-of-requires Inv-loop μ-loop
-nodes-of-requires c κs = let w = pairs-within (c .before .before .before .before .before .before .before .before .args .lengths .now) _ (c .before .before .loop-test .taken) in let h = c .before .before .before .loop .inv .1 in let e = c .wide .ensures in omega arith
+nodes-of-requires c κs =
+    let at-loop : tie.At-loop Inv-loop μ-loop = search in
+    let entry : tie.Start Inv-loop μ-loop = search in
+    let w = pairs-within (entry .args .lengths .now) _ (c .before .before .loop-test .taken) in let h = at-loop .loop .inv .1 in let e = c .wide .ensures in omega arith
 
 own-or-clear-requires : tie.Need-own-or-clear-requires Inv-loop μ-loop
-own-or-clear-requires c κs = (c .before .before .before .before .before .before .before .before .before .pre .0, part-of-all (c .before .before .before .before .before .before .before .before .before .args .lengths .now) (c .before .before .before .before .before .before .before .before .before .args .front-nodes .now) _ (c .before .before .before .loop-test .taken) (c .before .before .before .before .before .before .before .before .before .pre .1 .0) _ _ _ _ (c .before .before .before .before .loop .inv .1) (c .before .wide .ensures) (c .nodes-of .ensures) (c .before .before .before .before .before .before .before .before .before .pre .1 .1))
+own-or-clear-requires c κs =
+    let at-loop-test : tie.In-loop Inv-loop μ-loop = search in
+    let at-loop : tie.At-loop Inv-loop μ-loop = search in
+    let entry : tie.Start Inv-loop μ-loop = search in
+    (entry .pre .0, part-of-all (entry .args .lengths .now) (entry .args .front-nodes .now) _ (at-loop-test .loop-test .taken) (entry .pre .1 .0) _ _ _ _ (at-loop .loop .inv .1) (c .before .wide .ensures) (c .nodes-of .ensures) (entry .pre .1 .1))
 
 returns : tie.Need-returns Inv-loop μ-loop
-returns c = let a = c .before .before .before .before .before .before .before .before .before .before .before .args in let l = a .lengths .now in let xs = a .front-nodes .now in
-    let e = part-is l xs _ (c .before .before .before .before .before .loop-test .taken) (c .before .before .before .before .before .before .before .before .before .before .before .pre .1 .0) _ _ _ (c .before .before .before .before .before .before .loop .inv .1) (c .before .before .before .wide .ensures) (c .before .before .nodes-of .ensures) in
+returns c =
+    let at-wide : tie.After-wide Inv-loop μ-loop = search in
+    let at-loop-test : tie.In-loop Inv-loop μ-loop = search in
+    let at-loop : tie.At-loop Inv-loop μ-loop = search in
+    let entry : tie.Start Inv-loop μ-loop = search in
+    let a = entry .args in let l = a .lengths .now in let xs = a .front-nodes .now in
+    let e = part-is l xs _ (at-loop-test .loop-test .taken) (entry .pre .1 .0) _ _ _ (at-loop .loop .inv .1) (at-wide .wide .ensures) (c .before .before .nodes-of .ensures) in
     let p : ℕ → Bool = λ k. eqb k (a .li) || allClearOf (a .points .now) (getD (cut l xs) k []) (a .least) (a .row .now) (a .n) in
-    let g : p (c .before .before .before .before .before .before .loop .other) ≡ false = seen (λ (f : List ℕ). eqb (c .before .before .before .before .before .before .loop .other) (a .li) || allClearOf (a .points .now) f (a .least) (a .row .now) (a .n)) (c .before .own-or-clear .ensures) e (not-true _ (c .if1 .taken)) in
-    rw (length-cut l xs) (every-stops p (c .before .before .before .before .before .before .loop .other) (length l) (c .before .before .before .before .before .loop-test .taken) g)
+    let g : p (at-loop .loop .other) ≡ false = seen (λ (f : List ℕ). eqb (at-loop .loop .other) (a .li) || allClearOf (a .points .now) f (a .least) (a .row .now) (a .n)) (c .before .own-or-clear .ensures) e (not-true _ (c .if1 .taken)) in
+    rw (length-cut l xs) (every-stops p (at-loop .loop .other) (length l) (at-loop-test .loop-test .taken) g)
 
 add-start : tie.Need-add-start Inv-loop μ-loop
-add-start c = let w = pairs-within (c .before .before .before .before .before .before .before .before .before .before .before .args .lengths .now) _ (c .before .before .before .before .before .loop-test .taken) in let h = c .before .before .before .before .before .before .loop .inv .1 in let e = c .before .before .before .wide .ensures in omega arith
+add-start c =
+    let at-wide : tie.After-wide Inv-loop μ-loop = search in
+    let at-loop-test : tie.In-loop Inv-loop μ-loop = search in
+    let at-loop : tie.At-loop Inv-loop μ-loop = search in
+    let entry : tie.Start Inv-loop μ-loop = search in
+    let w = pairs-within (entry .args .lengths .now) _ (at-loop-test .loop-test .taken) in let h = at-loop .loop .inv .1 in let e = at-wide .wide .ensures in omega arith
 
 add-other : tie.Need-add-other Inv-loop μ-loop
 add-other c = omega arith
@@ -59,14 +76,21 @@ loop-less : tie.Need-loop-less Inv-loop μ-loop
 loop-less c = omega arith
 
 loop-again : tie.Need-loop-again Inv-loop μ-loop
-loop-again c = let a = c .before .before .before .before .before .before .before .before .before .before .before .args in let l = a .lengths .now in let xs = a .front-nodes .now in
-    let e = part-is l xs _ (c .before .before .before .before .before .loop-test .taken) (c .before .before .before .before .before .before .before .before .before .before .before .pre .1 .0) _ _ _ (c .before .before .before .before .before .before .loop .inv .1) (c .before .before .before .wide .ensures) (c .before .before .nodes-of .ensures) in
+loop-again c =
+    let at-wide : tie.After-wide Inv-loop μ-loop = search in
+    let at-loop-test : tie.In-loop Inv-loop μ-loop = search in
+    let at-loop : tie.At-loop Inv-loop μ-loop = search in
+    let entry : tie.Start Inv-loop μ-loop = search in
+    let a = entry .args in let l = a .lengths .now in let xs = a .front-nodes .now in
+    let e = part-is l xs _ (at-loop-test .loop-test .taken) (entry .pre .1 .0) _ _ _ (at-loop .loop .inv .1) (at-wide .wide .ensures) (c .before .before .nodes-of .ensures) in
     let p : ℕ → Bool = λ k. eqb k (a .li) || allClearOf (a .points .now) (getD (cut l xs) k []) (a .least) (a .row .now) (a .n) in
-    let g : p (c .before .before .before .before .before .before .loop .other) ≡ true = seen (λ (f : List ℕ). eqb (c .before .before .before .before .before .before .loop .other) (a .li) || allClearOf (a .points .now) f (a .least) (a .row .now) (a .n)) (c .before .own-or-clear .ensures) e (not-false _ (c .if1 .left)) in
-    (omega arith, ap (λ t. c .before .before .before .before .before .before .loop .start + t) (c .before .before .before .wide .ensures) ∙ ap (λ t. t + getD l (c .before .before .before .before .before .before .loop .other) 0) (c .before .before .before .before .before .before .loop .inv .1) ∙ sym (pairs-more l (c .before .before .before .before .before .before .loop .other) (c .before .before .before .before .before .loop-test .taken)), every-more p (c .before .before .before .before .before .before .loop .other) (c .before .before .before .before .before .before .loop .inv .2) g)
+    let g : p (at-loop .loop .other) ≡ true = seen (λ (f : List ℕ). eqb (at-loop .loop .other) (a .li) || allClearOf (a .points .now) f (a .least) (a .row .now) (a .n)) (c .before .own-or-clear .ensures) e (not-false _ (c .if1 .left)) in
+    (omega arith, ap (λ t. at-loop .loop .start + t) (at-wide .wide .ensures) ∙ ap (λ t. t + getD l (at-loop .loop .other) 0) (at-loop .loop .inv .1) ∙ sym (pairs-more l (at-loop .loop .other) (at-loop-test .loop-test .taken)), every-more p (at-loop .loop .other) (at-loop .loop .inv .2) g)
 
 returns-2 : tie.Need-returns-2 Inv-loop μ-loop
-returns-2 c = let a = c .before .before .before .before .before .before .args in let l = a .lengths .now in let xs = a .front-nodes .now in
+returns-2 c =
+    let entry : tie.Start Inv-loop μ-loop = search in
+    let a = entry .args in let l = a .lengths .now in let xs = a .front-nodes .now in
     let p : ℕ → Bool = λ k. eqb k (a .li) || allClearOf (a .points .now) (getD (cut l xs) k []) (a .least) (a .row .now) (a .n) in
     let e : c .before .loop .other ≡ length l = omega arith in
     rw (length-cut l xs) (every-end p (c .before .loop .other) (length l) (c .before .loop .inv .2) e)

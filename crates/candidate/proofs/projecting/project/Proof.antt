@@ -16,10 +16,18 @@ root-requires : tie.Need-root-requires
 root-requires c κs = search needs
 
 returns-3 : tie.Need-returns-3
-returns-3 c = no-bisector _ _ _ _ _ _ (c .before .before .before .before .before .before .before .before .before .before .before .before .pre .0) (c .before .before .before .before .before .before .before .before .before .before .before .before .pre .1) (rw tiny-is at (c .before .before .before .before .before .before .before .before .before .before .before .if1 .left)) (rw tiny-is at (c .before .before .before .before .before .before .before .before .before .before .if2 .left)) _ (c .before .root .ensures) (rw nano-is at (c .if3 .taken))
+returns-3 c =
+    let at-if2 : tie.Else2 = search in
+    let at-if1 : tie.Else1 = search in
+    let entry : tie.Start = search in
+    no-bisector _ _ _ _ _ _ (entry .pre .0) (entry .pre .1) (rw tiny-is at (at-if1 .if1 .left)) (rw tiny-is at (at-if2 .if2 .left)) _ (c .before .root .ensures) (rw nano-is at (c .if3 .taken))
 
 returns-4 : tie.Need-returns-4
-returns-4 c = too-acute _ _ _ _ _ _ (c .before .before .before .before .before .before .before .before .before .before .before .before .before .pre .0) (c .before .before .before .before .before .before .before .before .before .before .before .before .before .pre .1) (rw tiny-is at (c .before .before .before .before .before .before .before .before .before .before .before .before .if1 .left)) (rw tiny-is at (c .before .before .before .before .before .before .before .before .before .before .before .if2 .left)) _ (c .before .before .root .ensures) (rw nano-is at (c .before .if3 .left))
+returns-4 c =
+    let at-if2 : tie.Else2 = search in
+    let at-if1 : tie.Else1 = search in
+    let entry : tie.Start = search in
+    too-acute _ _ _ _ _ _ (entry .pre .0) (entry .pre .1) (rw tiny-is at (at-if1 .if1 .left)) (rw tiny-is at (at-if2 .if2 .left)) _ (c .before .before .root .ensures) (rw nano-is at (c .before .if3 .left))
     (rw (two-is, fifth-is) at (c .if4 .taken))
 
 extra-requires : tie.Need-extra-requires
@@ -29,8 +37,16 @@ lesser-requires : tie.Need-lesser-requires
 lesser-requires c κs = search needs
 
 returns-5 : tie.Need-returns-5
-returns-5 c = projected _ _ _ _ _ _ (c .before .before .before .before .before .before .before .before .before .before .before .before .before .before .before .before .before .pre .0) (c .before .before .before .before .before .before .before .before .before .before .before .before .before .before .before .before .before .pre .1) (rw tiny-is at (c .before .before .before .before .before .before .before .before .before .before .before .before .before .before .before .before .if1 .left)) (rw tiny-is at (c .before .before .before .before .before .before .before .before .before .before .before .before .before .before .before .if2 .left)) _ (c .before .before .before .before .before .before .root .ensures) _ _
-    (rw nano-is at (c .before .before .before .before .before .if3 .left)) (rw (two-is, fifth-is) at (c .before .before .before .before .if4 .left)) (c .before .before .before .extra .ensures) (rw (two-is, three-is) at (c .before .before .lesser .ensures))
+returns-5 c =
+    let at-extra : tie.After-extra = search in
+    let at-if4 : tie.Else4 = search in
+    let at-if3 : tie.Else3 = search in
+    let at-root : tie.After-root = search in
+    let at-if2 : tie.Else2 = search in
+    let at-if1 : tie.Else1 = search in
+    let entry : tie.Start = search in
+    projected _ _ _ _ _ _ (entry .pre .0) (entry .pre .1) (rw tiny-is at (at-if1 .if1 .left)) (rw tiny-is at (at-if2 .if2 .left)) _ (at-root .root .ensures) _ _
+    (rw nano-is at (at-if3 .if3 .left)) (rw (two-is, fifth-is) at (at-if4 .if4 .left)) (at-extra .extra .ensures) (rw (two-is, three-is) at (c .before .before .lesser .ensures))
 
 pub project-spec : {M : Type 1} → statement M
 project-spec =

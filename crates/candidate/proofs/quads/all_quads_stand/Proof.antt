@@ -24,10 +24,14 @@ abbrev μ-loop : tie.MeasureT-loop
 μ-loop points old row n least a₀ d₀ rung₀ i₀ a d rung i = n - i
 
 node-point-requires : tie.Need-node-point-requires Inv-loop μ-loop
-node-point-requires c κs = let p = c .before .before .before .pre in let k : 0 < length (c .before .before .before .args .old .now) = omega arith in (k, p .1 _ k)
+node-point-requires c κs =
+    let entry : tie.Start Inv-loop μ-loop = search in
+    let p = entry .pre in let k : 0 < length (entry .args .old .now) = omega arith in (k, p .1 _ k)
 
 point-at-requires : tie.Need-point-at-requires Inv-loop μ-loop
-point-at-requires c κs = omega (arith, c .before .before .before .before .pre .0)
+point-at-requires c κs =
+    let entry : tie.Start Inv-loop μ-loop = search in
+    omega (arith, entry .pre .0)
 
 side-length-requires : tie.Need-side-length-requires Inv-loop μ-loop
 side-length-requires c κs = search needs
@@ -39,21 +43,28 @@ next-of-requires : tie.Need-next-of-requires Inv-loop μ-loop
 next-of-requires c κs = search needs
 
 node-point-requires-2 : tie.Need-node-point-requires-2 Inv-loop μ-loop
-node-point-requires-2 c κs = let p = c .before .before .before .before .before .before .before .before .before .pre in let k : c .next-of .result < length (c .before .before .before .before .before .before .before .before .before .args .old .now) = omega (arith, p .0, c .next-of .ensures .1) in (k, p .1 _ k)
+node-point-requires-2 c κs =
+    let entry : tie.Start Inv-loop μ-loop = search in
+    let p = entry .pre in let k : c .next-of .result < length (entry .args .old .now) = omega (arith, p .0, c .next-of .ensures .1) in (k, p .1 _ k)
 
 point-at-requires-2 : tie.Need-point-at-requires-2 Inv-loop μ-loop
-point-at-requires-2 c κs = omega (arith, c .before .before .before .before .before .before .before .before .before .before .pre .0, c .before .next-of .ensures .1)
+point-at-requires-2 c κs =
+    let entry : tie.Start Inv-loop μ-loop = search in
+    omega (arith, entry .pre .0, c .before .next-of .ensures .1)
 
 side-length-requires-2 : tie.Need-side-length-requires-2 Inv-loop μ-loop
 side-length-requires-2 c κs = search needs
 
 returns : tie.Need-returns Inv-loop μ-loop
 returns c =
-    let a = c .before .before .before .before .before .before .before .before .before .before .before .before .before .args in
-    let t = c .before .before .before .before .before .before in
-    let l = c .before .before .before .before .before .loop-test .taken in
+    let at-next-of : tie.After-next-of Inv-loop μ-loop = search in
+    let at-loop-test : tie.In-loop Inv-loop μ-loop = search in
+    let entry : tie.Start Inv-loop μ-loop = search in
+    let a = entry .args in
+    let t : tie.At-loop Inv-loop μ-loop = search in
+    let l = at-loop-test .loop-test .taken in
     let w = t .loop .inv .4 l in
-    let s = side-of (a .row .now) (a .n) (t .loop .i) (c .before .side-length2 .ensures) (w .1) (c .before .before .point-at2 .ensures) (c .before .before .before .before .next-of .ensures .0) in
+    let s = side-of (a .row .now) (a .n) (t .loop .i) (c .before .side-length2 .ensures) (w .1) (c .before .before .point-at2 .ensures) (at-next-of .next-of .ensures .0) in
     ap (λ b. b && every (cornersGood (a .points .now) (a .old .now) (a .row .now) (a .n)) (a .n))
     (every-stops (longEnough (a .least) (a .row .now) (a .n)) (t .loop .i) (a .n) l (too-near (a .least) s (c .if1 .taken)))
 
@@ -64,37 +75,57 @@ side-length-requires-4 : tie.Need-side-length-requires-4 Inv-loop μ-loop
 side-length-requires-4 c κs = search needs
 
 corners-stand-requires : tie.Need-corners-stand-requires Inv-loop μ-loop
-corners-stand-requires c κs = (c .before .side-length3 .ensures, c .before .before .before .side-length2 .ensures, c .before .before .before .before .before .before .before .before .loop .inv .3, c .side-length4 .ensures)
+corners-stand-requires c κs =
+    let at-side-length2 : tie.After-side-length2 Inv-loop μ-loop = search in
+    let at-loop : tie.At-loop Inv-loop μ-loop = search in
+    (c .before .side-length3 .ensures, at-side-length2 .side-length2 .ensures, at-loop .loop .inv .3, c .side-length4 .ensures)
 
 returns-2 : tie.Need-returns-2 Inv-loop μ-loop
 returns-2 c =
-    let a = c .before .before .before .before .before .before .before .before .before .before .before .before .before .before .before .before .before .args in
-    let t = c .before .before .before .before .before .before .before .before .before .before in
-    let l = c .before .before .before .before .before .before .before .before .before .loop-test .taken in
+    let at-point-at2 : tie.After-point-at2 Inv-loop μ-loop = search in
+    let at-node-point2 : tie.After-node-point2 Inv-loop μ-loop = search in
+    let at-next-of : tie.After-next-of Inv-loop μ-loop = search in
+    let at-loop-test : tie.In-loop Inv-loop μ-loop = search in
+    let entry = at-loop-test .before .before .before .before .before .before .before .before in
+    let a = entry .args in
+    let t : tie.At-loop Inv-loop μ-loop = search in
+    let l = at-loop-test .loop-test .taken in
     let w = t .loop .inv .4 l in
-    let q = corners-of (a .points .now) (a .row .now) (a .old .now) (a .n) (t .loop .i) (c .before .corners-stand .ensures) (w .0) (c .before .before .before .before .before .before .before .node-point2 .ensures) (c .before .before .before .before .before .before .point-at2 .ensures) (w .1) (c .before .before .before .before .before .before .before .before .next-of .ensures .0) (not-true _ (c .if2 .taken)) in
+    let q = corners-of (a .points .now) (a .row .now) (a .old .now) (a .n) (t .loop .i) (c .before .corners-stand .ensures) (w .0) (at-node-point2 .node-point2 .ensures) (at-point-at2 .point-at2 .ensures) (w .1) (at-next-of .next-of .ensures .0) (not-true _ (c .if2 .taken)) in
     let e = every-stops (cornersGood (a .points .now) (a .old .now) (a .row .now) (a .n)) (t .loop .i) (a .n) l q in
     sym (and-false (every (longEnough (a .least) (a .row .now) (a .n)) (a .n))) ∙ ap (λ b. every (longEnough (a .least) (a .row .now) (a .n)) (a .n) && b) e
 
 add-i : tie.Need-add-i Inv-loop μ-loop
-add-i c = omega (arith, c .before .before .before .before .before .before .before .before .before .loop-test .taken, c .before .before .before .before .before .before .before .before .before .before .before .before .before .before .before .before .before .good)
+add-i c =
+    let at-loop-test : tie.In-loop Inv-loop μ-loop = search in
+    let entry : tie.Start Inv-loop μ-loop = search in
+    omega (arith, at-loop-test .loop-test .taken, entry .good)
 
 loop-less : tie.Need-loop-less Inv-loop μ-loop
-loop-less c = omega (arith, c .before .before .before .before .before .before .before .before .before .loop-test .taken)
+loop-less c =
+    let at-loop-test : tie.In-loop Inv-loop μ-loop = search in
+    omega (arith, at-loop-test .loop-test .taken)
 
 loop-again : tie.Need-loop-again Inv-loop μ-loop
 loop-again c =
-    let a = c .before .before .before .before .before .before .before .before .before .before .before .before .before .before .before .before .before .args in
-    let t = c .before .before .before .before .before .before .before .before .before .before in
-    let l = c .before .before .before .before .before .before .before .before .before .loop-test .taken in
+    let at-if1 : tie.Else1 Inv-loop μ-loop = search in
+    let at-side-length2 : tie.After-side-length2 Inv-loop μ-loop = search in
+    let at-point-at2 : tie.After-point-at2 Inv-loop μ-loop = search in
+    let at-node-point2 : tie.After-node-point2 Inv-loop μ-loop = search in
+    let at-next-of : tie.After-next-of Inv-loop μ-loop = search in
+    let at-loop-test : tie.In-loop Inv-loop μ-loop = search in
+    let entry = at-loop-test .before .before .before .before .before .before .before .before in
+    let a = entry .args in
+    let t : tie.At-loop Inv-loop μ-loop = search in
+    let l = at-loop-test .loop-test .taken in
     let w = t .loop .inv .4 l in
-    let next-is = c .before .before .before .before .before .before .before .before .next-of .ensures .0 in
-    let b-is = c .before .before .before .before .before .before .before .node-point2 .ensures in
-    let c-is = c .before .before .before .before .before .before .point-at2 .ensures in
-    let s = side-of (a .row .now) (a .n) (t .loop .i) (c .before .before .before .before .before .side-length2 .ensures) (w .1) c-is next-is in
+    let next-is = at-next-of .next-of .ensures .0 in
+    let b-is = at-node-point2 .node-point2 .ensures in
+    let c-is = at-point-at2 .point-at2 .ensures in
+    let s = side-of (a .row .now) (a .n) (t .loop .i) (at-side-length2 .side-length2 .ensures) (w .1) c-is next-is in
     let q = corners-of (a .points .now) (a .row .now) (a .old .now) (a .n) (t .loop .i) (c .before .corners-stand .ensures) (w .0) b-is c-is (w .1) next-is (not-false _ (c .if2 .left)) in (
       omega (arith, l),
-      every-more (longEnough (a .least) (a .row .now) (a .n)) (t .loop .i) (t .loop .inv .1) (far-enough (a .least) s (c .before .before .before .before .if1 .left)),
+      every-more (longEnough (a .least) (a .row .now) (a .n)) (t .loop .i) (t .loop .inv .1) (far-enough (a .least) s (at-if1 .if1 .left)),
       every-more (cornersGood (a .points .now) (a .old .now) (a .row .now) (a .n)) (t .loop .i) (t .loop .inv .2) q,
       c .before .before .side-length4 .ensures,
       λ m. let e = next-inner (a .n) (t .loop .i) l next-is m in
@@ -103,7 +134,8 @@ loop-again c =
 
 returns-3 : tie.Need-returns-3 Inv-loop μ-loop
 returns-3 c =
-    let a = c .before .before .before .before .before .before .before .before .args in
+    let entry : tie.Start Inv-loop μ-loop = search in
+    let a = entry .args in
     let t = c .before in
     let e : t .loop .i ≡ a .n = omega arith in
     every-end (cornersGood (a .points .now) (a .old .now) (a .row .now) (a .n)) (t .loop .i) (a .n) (t .loop .inv .2) e

@@ -29,7 +29,9 @@ returns-2 c =
     )
 
 corner-passes-requires-3 : tie.Need-corner-passes-requires-3
-corner-passes-requires-3 c κs = let p = c .before .before .before .before .pre in (p .3 ∙ length-flip _ _, p .1 ∙ length-flip _ _)
+corner-passes-requires-3 c κs =
+    let entry : tie.Start = search in
+    let p = entry .pre in (p .3 ∙ length-flip _ _, p .1 ∙ length-flip _ _)
 
 returns-3 : tie.Need-returns-3
 unfolding cornersPass
@@ -46,7 +48,9 @@ returns-3 c =
     )
 
 corner-passes-requires-4 : tie.Need-corner-passes-requires-4
-corner-passes-requires-4 c κs = let p = c .before .before .before .before .before .before .pre in (p .1, p .2 ∙ length-flip _ _)
+corner-passes-requires-4 c κs =
+    let entry : tie.Start = search in
+    let p = entry .pre in (p .1, p .2 ∙ length-flip _ _)
 
 returns-4 : tie.Need-returns-4
 unfolding cornersPass

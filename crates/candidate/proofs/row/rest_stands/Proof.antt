@@ -18,8 +18,9 @@ all-inside-requires c κs = search needs
 
 returns : tie.Need-returns
 returns c =
-    let a = c .before .before .before .before .before .before .before .before .args in
-    let p = c .before .before .before .before .before .before .before .before .pre in
+    let entry : tie.Start = search in
+    let a = entry .args in
+    let p = entry .pre in
     let j : Job = job (a .coords .now) (a .loop-lengths .now) (a .h) (a .options) in
     let l = a .lengths .now in
     let xs = a .front-nodes .now in
@@ -31,21 +32,26 @@ all-off-boundary-requires c κs = search needs
 
 returns-2 : tie.Need-returns-2
 returns-2 c =
-    let a = c .before .before .before .before .before .before .before .before .before .before .args in
-    let p = c .before .before .before .before .before .before .before .before .before .before .pre in
+    let at-all-inside : tie.After-all-inside = search in
+    let entry : tie.Start = search in
+    let a = entry .args in
+    let p = entry .pre in
     let j : Job = job (a .coords .now) (a .loop-lengths .now) (a .h) (a .options) in
     let l = a .lengths .now in
     let xs = a .front-nodes .now in
     let hn = cut-length l xs (a .li) (p .0 .0) (p .1 .0 .1) (a .front .len) (p .0 .2) in
-    one-at-boundary j (a .points .now) (cut l xs) (a .li) (a .row .now) (a .front .len) hn _ (c .before .before .before .all-inside .ensures) (not-false _ (c .before .before .if1 .left)) _ (rw twentieth-is at (c .before .all-off-boundary .ensures)) (not-true _ (c .if2 .taken))
+    one-at-boundary j (a .points .now) (cut l xs) (a .li) (a .row .now) (a .front .len) hn _ (at-all-inside .all-inside .ensures) (not-false _ (c .before .before .if1 .left)) _ (rw twentieth-is at (c .before .all-off-boundary .ensures)) (not-true _ (c .if2 .taken))
 
 nodes-of-requires : tie.Need-nodes-of-requires
-nodes-of-requires c κs = let p = c .before .before .before .before .before .before .before .before .before .before .pre in let w = pairs-within (c .before .before .before .before .before .before .before .before .before .before .args .lengths .now) (c .before .before .before .before .before .before .before .before .before .before .args .li) (p .0 .0) in omega arith
+nodes-of-requires c κs =
+    let entry : tie.Start = search in
+    let p = entry .pre in let w = pairs-within (entry .args .lengths .now) (entry .args .li) (p .0 .0) in omega arith
 
 all-quads-stand-requires : tie.Need-all-quads-stand-requires
 all-quads-stand-requires c κs =
-    let a = c .before .before .before .before .before .before .before .before .before .before .before .before .args in
-    let p = c .before .before .before .before .before .before .before .before .before .before .before .before .pre in
+    let entry : tie.Start = search in
+    let a = entry .args in
+    let p = entry .pre in
     let l = a .lengths .now in
     let xs = a .front-nodes .now in
     let f = part-is l xs (a .li) (p .0 .0) (p .1 .0 .1) _ _ _ (p .0 .1) (p .0 .2) (c .before .nodes-of .ensures) in
@@ -54,42 +60,66 @@ all-quads-stand-requires c κs =
 
 returns-3 : tie.Need-returns-3
 returns-3 c =
-    let a = c .before .before .before .before .before .before .before .before .before .before .before .before .before .before .args in
-    let p = c .before .before .before .before .before .before .before .before .before .before .before .before .before .before .pre in
+    let at-nodes-of : tie.After-nodes-of = search in
+    let at-if2 : tie.Else2 = search in
+    let at-all-off-boundary : tie.After-all-off-boundary = search in
+    let at-if1 : tie.Else1 = search in
+    let at-all-inside : tie.After-all-inside = search in
+    let entry = at-all-inside .before .before .before .before .before .before .before in
+    let a = entry .args in
+    let p = entry .pre in
     let j : Job = job (a .coords .now) (a .loop-lengths .now) (a .h) (a .options) in
     let l = a .lengths .now in
     let xs = a .front-nodes .now in
     let hn = cut-length l xs (a .li) (p .0 .0) (p .1 .0 .1) (a .front .len) (p .0 .2) in
-    let e = part-is l xs (a .li) (p .0 .0) (p .1 .0 .1) _ _ _ (p .0 .1) (p .0 .2) (c .before .before .before .nodes-of .ensures) in
-    one-quad-fails j (a .points .now) (cut l xs) (a .li) (a .row .now) (a .front .len) hn _ (c .before .before .before .before .before .before .before .all-inside .ensures) (not-false _ (c .before .before .before .before .before .before .if1 .left)) _ (rw twentieth-is at (c .before .before .before .before .before .all-off-boundary .ensures)) (not-false _ (c .before .before .before .before .if2 .left)) _ e _ (c .before .all-quads-stand .ensures) (not-true _ (c .if3 .taken))
+    let e = part-is l xs (a .li) (p .0 .0) (p .1 .0 .1) _ _ _ (p .0 .1) (p .0 .2) (at-nodes-of .nodes-of .ensures) in
+    one-quad-fails j (a .points .now) (cut l xs) (a .li) (a .row .now) (a .front .len) hn _ (at-all-inside .all-inside .ensures) (not-false _ (at-if1 .if1 .left)) _ (rw twentieth-is at (at-all-off-boundary .all-off-boundary .ensures)) (not-false _ (at-if2 .if2 .left)) _ e _ (c .before .all-quads-stand .ensures) (not-true _ (c .if3 .taken))
 
 clear-of-fronts-requires : tie.Need-clear-of-fronts-requires
 clear-of-fronts-requires c κs = search needs
 
 returns-4 : tie.Need-returns-4
 returns-4 c =
-    let a = c .before .before .before .before .before .before .before .before .before .before .before .before .before .before .before .before .before .args in
-    let p = c .before .before .before .before .before .before .before .before .before .before .before .before .before .before .before .before .before .pre in
+    let at-if3 : tie.Else3 = search in
+    let at-all-quads-stand : tie.After-all-quads-stand = search in
+    let at-nodes-of : tie.After-nodes-of = search in
+    let at-if2 : tie.Else2 = search in
+    let at-all-off-boundary : tie.After-all-off-boundary = search in
+    let at-if1 : tie.Else1 = search in
+    let at-all-inside : tie.After-all-inside = search in
+    let entry = at-all-inside .before .before .before .before .before .before .before in
+    let a = entry .args in
+    let p = entry .pre in
     let j : Job = job (a .coords .now) (a .loop-lengths .now) (a .h) (a .options) in
     let l = a .lengths .now in
     let xs = a .front-nodes .now in
     let hn = cut-length l xs (a .li) (p .0 .0) (p .1 .0 .1) (a .front .len) (p .0 .2) in
-    let e = part-is l xs (a .li) (p .0 .0) (p .1 .0 .1) _ _ _ (p .0 .1) (p .0 .2) (c .before .before .before .before .before .before .nodes-of .ensures) in
-    one-near j (a .points .now) (cut l xs) (a .li) (a .row .now) (a .front .len) hn _ (c .before .before .before .before .before .before .before .before .before .before .all-inside .ensures) (not-false _ (c .before .before .before .before .before .before .before .before .before .if1 .left)) _ (rw twentieth-is at (c .before .before .before .before .before .before .before .before .all-off-boundary .ensures)) (not-false _ (c .before .before .before .before .before .before .before .if2 .left)) _ e _ (c .before .before .before .before .all-quads-stand .ensures) (not-false _ (c .before .before .before .if3 .left)) _ (c .before .clear-of-fronts .ensures) (not-true _ (c .if4 .taken))
+    let e = part-is l xs (a .li) (p .0 .0) (p .1 .0 .1) _ _ _ (p .0 .1) (p .0 .2) (at-nodes-of .nodes-of .ensures) in
+    one-near j (a .points .now) (cut l xs) (a .li) (a .row .now) (a .front .len) hn _ (at-all-inside .all-inside .ensures) (not-false _ (at-if1 .if1 .left)) _ (rw twentieth-is at (at-all-off-boundary .all-off-boundary .ensures)) (not-false _ (at-if2 .if2 .left)) _ e _ (at-all-quads-stand .all-quads-stand .ensures) (not-false _ (at-if3 .if3 .left)) _ (c .before .clear-of-fronts .ensures) (not-true _ (c .if4 .taken))
 
 is-simple-requires : tie.Need-is-simple-requires
-is-simple-requires c κs = c .before .before .before .before .before .before .before .before .before .before .before .before .before .before .before .before .before .pre .0 .4
+is-simple-requires c κs =
+    let entry : tie.Start = search in
+    entry .pre .0 .4
 
 returns-5 : tie.Need-returns-5
 returns-5 c =
-    let a = c .before .before .before .before .before .before .before .before .before .before .before .before .before .before .before .before .before .before .args in
-    let p = c .before .before .before .before .before .before .before .before .before .before .before .before .before .before .before .before .before .before .pre in
+    let at-if3 : tie.Else3 = search in
+    let at-all-quads-stand : tie.After-all-quads-stand = search in
+    let at-nodes-of : tie.After-nodes-of = search in
+    let at-if2 : tie.Else2 = search in
+    let at-all-off-boundary : tie.After-all-off-boundary = search in
+    let at-if1 : tie.Else1 = search in
+    let at-all-inside : tie.After-all-inside = search in
+    let entry = at-all-inside .before .before .before .before .before .before .before in
+    let a = entry .args in
+    let p = entry .pre in
     let j : Job = job (a .coords .now) (a .loop-lengths .now) (a .h) (a .options) in
     let l = a .lengths .now in
     let xs = a .front-nodes .now in
     let hn = cut-length l xs (a .li) (p .0 .0) (p .1 .0 .1) (a .front .len) (p .0 .2) in
-    let e = part-is l xs (a .li) (p .0 .0) (p .1 .0 .1) _ _ _ (p .0 .1) (p .0 .2) (c .before .before .before .before .before .before .before .nodes-of .ensures) in
-    crossing-decides j (a .points .now) (cut l xs) (a .li) (a .row .now) (a .front .len) hn _ (c .before .before .before .before .before .before .before .before .before .before .before .all-inside .ensures) (not-false _ (c .before .before .before .before .before .before .before .before .before .before .if1 .left)) _ (rw twentieth-is at (c .before .before .before .before .before .before .before .before .before .all-off-boundary .ensures)) (not-false _ (c .before .before .before .before .before .before .before .before .if2 .left)) _ e _ (c .before .before .before .before .before .all-quads-stand .ensures) (not-false _ (c .before .before .before .before .if3 .left)) _ (c .before .before .clear-of-fronts .ensures) (not-false _ (c .before .if4 .left)) _ (c .is-simple .ensures)
+    let e = part-is l xs (a .li) (p .0 .0) (p .1 .0 .1) _ _ _ (p .0 .1) (p .0 .2) (at-nodes-of .nodes-of .ensures) in
+    crossing-decides j (a .points .now) (cut l xs) (a .li) (a .row .now) (a .front .len) hn _ (at-all-inside .all-inside .ensures) (not-false _ (at-if1 .if1 .left)) _ (rw twentieth-is at (at-all-off-boundary .all-off-boundary .ensures)) (not-false _ (at-if2 .if2 .left)) _ e _ (at-all-quads-stand .all-quads-stand .ensures) (not-false _ (at-if3 .if3 .left)) _ (c .before .before .clear-of-fronts .ensures) (not-false _ (c .before .if4 .left)) _ (c .is-simple .ensures)
 
 pub rest-stands-spec : {M : Type 1} → statement M
 rest-stands-spec =

@@ -36,8 +36,10 @@ loop-less c = omega arith
 
 loop-again : tie.Need-loop-again Inv-loop μ-loop
 loop-again c =
-    let a = c .before .before .before .before .before .before .args in
-    (omega arith, one-tested (a .points .now) (a .nodes .now) _ _ (c .before .before .loop-test .taken) (c .wide .ensures) _ (c .before .before .before .loop .fit) (c .before .before .before .loop .inv .1))
+    let at-loop : tie.At-loop Inv-loop μ-loop = search in
+    let entry : tie.Start Inv-loop μ-loop = search in
+    let a = entry .args in
+    (omega arith, one-tested (a .points .now) (a .nodes .now) _ _ (c .before .before .loop-test .taken) (c .wide .ensures) _ (at-loop .loop .fit) (at-loop .loop .inv .1))
 
 returns : tie.Need-returns Inv-loop μ-loop
 returns c = all-tested _ _ _ _ _ (c .loop-test .left) (c .before .loop .inv .1)

@@ -30,7 +30,10 @@ wide-requires : tie.Need-wide-requires Inv-loop μ-loop
 wide-requires c κs = search needs
 
 returns : tie.Need-returns Inv-loop μ-loop
-returns c = fit-here _ _ _ _ (c .before .before .before .loop-test .taken) (c .before .wide .ensures) _ (c .before .before .before .before .loop .inv .1) (c .if1 .taken)
+returns c =
+    let at-loop-test : tie.In-loop Inv-loop μ-loop = search in
+    let at-loop : tie.At-loop Inv-loop μ-loop = search in
+    fit-here _ _ _ _ (at-loop-test .loop-test .taken) (c .before .wide .ensures) _ (at-loop .loop .inv .1) (c .if1 .taken)
 
 add-k : tie.Need-add-k Inv-loop μ-loop
 add-k c = omega arith
@@ -39,10 +42,12 @@ loop-less : tie.Need-loop-less Inv-loop μ-loop
 loop-less c = omega arith
 
 loop-again : tie.Need-loop-again Inv-loop μ-loop
-loop-again c = (
-  omega arith,
-  fit-next _ _ _ _ (c .before .before .before .loop-test .taken) (c .before .wide .ensures) _ (c .before .before .before .before .loop .inv .1) (c .if1 .left),
-)
+loop-again c =
+    let at-loop-test : tie.In-loop Inv-loop μ-loop = search in
+    let at-loop : tie.At-loop Inv-loop μ-loop = search in (
+      omega arith,
+      fit-next _ _ _ _ (at-loop-test .loop-test .taken) (c .before .wide .ensures) _ (at-loop .loop .inv .1) (c .if1 .left),
+    )
 
 returns-2 : tie.Need-returns-2 Inv-loop μ-loop
 returns-2 c = fit-end _ _ _ _ (c .loop-test .left) (c .before .loop .inv .1)

@@ -37,7 +37,7 @@ mul-result c = search needs
 
 returns : tie.Need-returns
 returns c t =
-    let s = c .before .before .before in
+    let s : tie.Start = search in
     settled (s .args .a) (s .args .g) (c .before .before .wrapping-sub-u64 .result) (c .before .wrapping-sub-u642 .result) (s .pre .1) (s .pre .2) (s .pre .3) (s .pre .4)
     (c .before .before .wrapping-sub-u64 .ensures) (c .before .wrapping-sub-u642 .ensures)
     (subst (λ (v : ℕ). v < s .args .g * 2) (c .wrapping-add-u64 .ensures) (ltb-true _ _ t))

@@ -55,7 +55,7 @@ least t =
     mul-le-mul r o
 
 mul-is-nearest : tie.Need-mul-is-nearest
-mul-is-nearest c = let s = c .before .before .before .before in omega (arith, most (s .args .t) (s .pre))
+mul-is-nearest c = let s : tie.Start = search in omega (arith, most (s .args .t) (s .pre))
 
 -- what the tests tell of the guess g and its digits
 tests : (t : ℕ) (g : Float) → t < 2 ^ 53 → T (fits binary64 g) → toBits binary64 g / 2 ^ 52 ≡ 1023
@@ -86,10 +86,11 @@ tests t g h F e u v =
 
 is-nearest-requires : tie.Need-is-nearest-requires
 is-nearest-requires c κs =
-    let s = c .before .before .before .before in
+    let at-guess : tie.After-guess = search in
+    let s : tie.Start = search in
     let t = s .args .t in
-    let g = c .before .before .before .guess .result in
-    tests t g (s .pre) (subst T (sym (c .before .before .before .guess .ok)) tt) (c .if3 .taken) (c .before .before .if1 .taken) (c .before .if2 .taken)
+    let g = at-guess .guess .result in
+    tests t g (s .pre) (subst T (sym (at-guess .guess .ok)) tt) (c .if3 .taken) (c .before .before .if1 .taken) (c .before .if2 .taken)
 
 returns : tie.Need-returns
 returns c =

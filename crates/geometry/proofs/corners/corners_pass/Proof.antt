@@ -24,7 +24,9 @@ side-length-requires-3 : tie.Need-side-length-requires-3
 side-length-requires-3 c κs = search needs
 
 corner-passes-requires-2 : tie.Need-corner-passes-requires-2
-corner-passes-requires-2 c κs = (c .before .before .before .before .side-length .ensures ∙ length-flip _ _, c .side-length3 .ensures)
+corner-passes-requires-2 c κs =
+    let at-side-length : tie.After-side-length = search in
+    (at-side-length .side-length .ensures ∙ length-flip _ _, c .side-length3 .ensures)
 
 returns-2 : tie.Need-returns-2
 unfolding cornersPass
@@ -41,7 +43,9 @@ side-length-requires-4 : tie.Need-side-length-requires-4
 side-length-requires-4 c κs = search needs
 
 corner-passes-requires-3 : tie.Need-corner-passes-requires-3
-corner-passes-requires-3 c κs = (c .before .before .before .side-length3 .ensures ∙ length-flip _ _, c .side-length4 .ensures)
+corner-passes-requires-3 c κs =
+    let at-side-length3 : tie.After-side-length3 = search in
+    (at-side-length3 .side-length3 .ensures ∙ length-flip _ _, c .side-length4 .ensures)
 
 returns-3 : tie.Need-returns-3
 unfolding cornersPass
@@ -58,7 +62,9 @@ returns-3 c =
     )
 
 corner-passes-requires-4 : tie.Need-corner-passes-requires-4
-corner-passes-requires-4 c κs = (c .before .before .side-length4 .ensures ∙ length-flip _ _, c .before .before .before .before .before .before .before .before .side-length2 .ensures)
+corner-passes-requires-4 c κs =
+    let at-side-length2 : tie.After-side-length2 = search in
+    (c .before .before .side-length4 .ensures ∙ length-flip _ _, at-side-length2 .side-length2 .ensures)
 
 returns-4 : tie.Need-returns-4
 unfolding cornersPass

@@ -20,25 +20,36 @@ side-length-requires-4 : tie.Need-side-length-requires-4
 side-length-requires-4 c κs = search needs
 
 corner-value-requires : tie.Need-corner-value-requires
-corner-value-requires c κs = (c .side-length4 .ensures ∙ length-flip _ _, c .before .before .before .side-length .ensures)
+corner-value-requires c κs =
+    let at-side-length : tie.After-side-length = search in
+    (c .side-length4 .ensures ∙ length-flip _ _, at-side-length .side-length .ensures)
 
 lesser-requires : tie.Need-lesser-requires
 lesser-requires c κs = search needs
 
 corner-value-requires-2 : tie.Need-corner-value-requires-2
-corner-value-requires-2 c κs = (c .before .before .before .before .before .side-length .ensures ∙ length-flip _ _, c .before .before .before .before .side-length2 .ensures)
+corner-value-requires-2 c κs =
+    let at-side-length2 : tie.After-side-length2 = search in
+    let at-side-length : tie.After-side-length = search in
+    (at-side-length .side-length .ensures ∙ length-flip _ _, at-side-length2 .side-length2 .ensures)
 
 lesser-requires-2 : tie.Need-lesser-requires-2
 lesser-requires-2 c κs = search needs
 
 corner-value-requires-3 : tie.Need-corner-value-requires-3
-corner-value-requires-3 c κs = (c .before .before .before .before .before .before .side-length2 .ensures ∙ length-flip _ _, c .before .before .before .before .before .side-length3 .ensures)
+corner-value-requires-3 c κs =
+    let at-side-length3 : tie.After-side-length3 = search in
+    let at-side-length2 : tie.After-side-length2 = search in
+    (at-side-length2 .side-length2 .ensures ∙ length-flip _ _, at-side-length3 .side-length3 .ensures)
 
 lesser-requires-3 : tie.Need-lesser-requires-3
 lesser-requires-3 c κs = search needs
 
 corner-value-requires-4 : tie.Need-corner-value-requires-4
-corner-value-requires-4 c κs = (c .before .before .before .before .before .before .before .side-length3 .ensures ∙ length-flip _ _, c .before .before .before .before .before .before .side-length4 .ensures)
+corner-value-requires-4 c κs =
+    let at-side-length4 : tie.After-side-length4 = search in
+    let at-side-length3 : tie.After-side-length3 = search in
+    (at-side-length3 .side-length3 .ensures ∙ length-flip _ _, at-side-length4 .side-length4 .ensures)
 
 lesser-requires-4 : tie.Need-lesser-requires-4
 lesser-requires-4 c κs = search needs

@@ -18,7 +18,9 @@ area-term-requires-4 c κs = search needs
 
 returns : tie.Need-returns
 unfolding quadArea
-returns c = rw (c .before .before .before .area-term .ensures, c .before .before .area-term2 .ensures, c .before .area-term3 .ensures, c .area-term4 .ensures, zero-is, two-is)
+returns c =
+    let at-area-term : tie.After-area-term = search in
+    rw (at-area-term .area-term .ensures, c .before .before .area-term2 .ensures, c .before .area-term3 .ensures, c .area-term4 .ensures, zero-is, two-is)
 
 pub quad-area-spec : {M : Type 1} → statement M
 quad-area-spec =

@@ -9,7 +9,9 @@ use Rattle.geometry.proofs.domain.contains.Tie as tie
 
 returns : tie.Need-returns
 unfolding contains
-returns c = sym (ap (λ (rs : List Ring). contains rs (c .before .before .before .args .p)) (no-loops _ _ (c .if1 .taken)))
+returns c =
+    let entry : tie.Start = search in
+    sym (ap (λ (rs : List Ring). contains rs (entry .args .p)) (no-loops _ _ (c .if1 .taken)))
 
 shared-slice-read-wide : tie.Need-shared-slice-read-wide
 shared-slice-read-wide c = search needs
@@ -18,7 +20,7 @@ wide-requires : tie.Need-wide-requires
 wide-requires c κs = search needs
 
 in-polygon-requires : tie.Need-in-polygon-requires
-in-polygon-requires c κs = let s = c .before .before .before .before .before in room-first (s .args .coords .now) (s .args .loops .now) (c .wide .ensures) (c .before .before .if1 .left) (s .pre)
+in-polygon-requires c κs = let s : tie.Start = search in room-first (s .args .coords .now) (s .args .loops .now) (c .wide .ensures) (c .before .before .if1 .left) (s .pre)
 
 rest-requires : tie.Need-rest-requires
 rest-requires c κs = let d = c .before .before in let s = d .before .before .before .before .before in room-first (s .args .coords .now) (s .args .loops .now) (d .wide .ensures) (d .before .before .if1 .left) (s .pre)
@@ -34,9 +36,11 @@ in-some-requires c κs =
 
 returns-2 : tie.Need-returns-2
 returns-2 c =
-    let d = c .before .before .before .before .before in
+    let at-if2 : tie.Then2 = search in
+    let at-in-polygon : tie.After-in-polygon = search in
+    let d = (at-in-polygon .before) in
     let s = d .before .before .before .before .before in
-    held (s .args .coords .now) (s .args .loops .now) (d .wide .ensures) (d .before .before .if1 .left) (s .pre) (c .before .before .rest .ensures) (c .before .holes .ensures) _ _ _ (c .before .before .before .before .in-polygon .ensures) (c .before .before .before .if2 .taken) (c .in-some .ensures)
+    held (s .args .coords .now) (s .args .loops .now) (d .wide .ensures) (d .before .before .if1 .left) (s .pre) (c .before .before .rest .ensures) (c .before .holes .ensures) _ _ _ (at-in-polygon .in-polygon .ensures) (at-if2 .if2 .taken) (c .in-some .ensures)
 
 returns-3 : tie.Need-returns-3
 returns-3 c =

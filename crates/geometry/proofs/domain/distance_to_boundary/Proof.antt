@@ -37,10 +37,16 @@ rest-requires : tie.Need-rest-requires Inv-loop μ-loop
 rest-requires c κs = omega arith
 
 least-square-requires : tie.Need-least-square-requires Inv-loop μ-loop
-least-square-requires c κs = room-part (c .before .before .before .before .loop .inv .1) (c .before .before .before .loop-test .taken) (c .before .wide .ensures) (c .rest .ensures)
+least-square-requires c κs =
+    let at-loop-test : tie.In-loop Inv-loop μ-loop = search in
+    let at-loop : tie.At-loop Inv-loop μ-loop = search in
+    room-part (at-loop .loop .inv .1) (at-loop-test .loop-test .taken) (c .before .wide .ensures) (c .rest .ensures)
 
 add-from : tie.Need-add-from Inv-loop μ-loop
-add-from c = omega (arith, room-here (c .before .before .before .before .before .loop .inv .1) (c .before .before .before .before .loop-test .taken) (c .before .before .wide .ensures))
+add-from c =
+    let at-loop-test : tie.In-loop Inv-loop μ-loop = search in
+    let at-loop : tie.At-loop Inv-loop μ-loop = search in
+    omega (arith, room-here (at-loop .loop .inv .1) (at-loop-test .loop-test .taken) (c .before .before .wide .ensures))
 
 add-k : tie.Need-add-k Inv-loop μ-loop
 add-k c = omega arith
@@ -50,8 +56,9 @@ loop-less c = omega arith
 
 loop-again : tie.Need-loop-again Inv-loop μ-loop
 loop-again c =
-    let at-loop = c .before .before .before .before .before in
-    let some = c .before .before .before .before .loop-test .taken in
+    let at-loop-test : tie.In-loop Inv-loop μ-loop = search in
+    let at-loop : tie.At-loop Inv-loop μ-loop = search in
+    let some = at-loop-test .loop-test .taken in
     let n-is = c .before .before .wide .ensures in (
       omega arith,
       room-next (at-loop .loop .inv .1) some n-is,

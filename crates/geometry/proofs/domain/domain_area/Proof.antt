@@ -17,7 +17,7 @@ wide-requires : tie.Need-wide-requires
 wide-requires c κs = search needs
 
 signed-area-requires : tie.Need-signed-area-requires
-signed-area-requires c κs = let s = c .before .before .before .before .before in room-first (s .args .coords .now) (s .args .loops .now) (c .wide .ensures) (c .before .before .if1 .left) (s .pre)
+signed-area-requires c κs = let s : tie.Start = search in room-first (s .args .coords .now) (s .args .loops .now) (c .wide .ensures) (c .before .before .if1 .left) (s .pre)
 
 rest-requires : tie.Need-rest-requires
 rest-requires c κs = let d = c .before in let s = d .before .before .before .before .before in room-first (s .args .coords .now) (s .args .loops .now) (d .wide .ensures) (d .before .before .if1 .left) (s .pre)
@@ -33,9 +33,10 @@ holes-area-requires c κs =
 
 returns-2 : tie.Need-returns-2
 returns-2 c =
-    let d = c .before .before .before .before in
+    let at-signed-area : tie.After-signed-area = search in
+    let d = (at-signed-area .before) in
     let s = d .before .before .before .before .before in
-    area-of (s .args .coords .now) (s .args .loops .now) (d .wide .ensures) (d .before .before .if1 .left) (s .pre) (c .before .before .rest .ensures) (c .before .holes .ensures) _ _ (c .before .before .before .signed-area .ensures) (c .holes-area .ensures)
+    area-of (s .args .coords .now) (s .args .loops .now) (d .wide .ensures) (d .before .before .if1 .left) (s .pre) (c .before .before .rest .ensures) (c .before .holes .ensures) _ _ (at-signed-area .signed-area .ensures) (c .holes-area .ensures)
 
 pub domain-area-spec : {M : Type 1} → statement M
 domain-area-spec =

@@ -31,13 +31,24 @@ rest-requires : tie.Need-rest-requires Inv-loop μ-loop
 rest-requires c κs = omega arith
 
 in-polygon-requires : tie.Need-in-polygon-requires Inv-loop μ-loop
-in-polygon-requires c κs = room-part (c .before .before .before .before .loop .inv .1) (c .before .before .before .loop-test .taken) (c .before .wide .ensures) (c .rest .ensures)
+in-polygon-requires c κs =
+    let at-loop-test : tie.In-loop Inv-loop μ-loop = search in
+    let at-loop : tie.At-loop Inv-loop μ-loop = search in
+    room-part (at-loop .loop .inv .1) (at-loop-test .loop-test .taken) (c .before .wide .ensures) (c .rest .ensures)
 
 returns : tie.Need-returns Inv-loop μ-loop
-returns c = some-here (c .before .before .before .before .before .before .loop .inv .1) (c .before .before .before .before .before .loop-test .taken) (c .before .before .before .wide .ensures) (c .before .before .rest .ensures) _ _ _ (c .before .before .before .before .before .before .loop .inv .2) (c .before .in-polygon .ensures) (c .if1 .taken)
+returns c =
+    let at-wide : tie.After-wide Inv-loop μ-loop = search in
+    let at-loop-test : tie.In-loop Inv-loop μ-loop = search in
+    let at-loop : tie.At-loop Inv-loop μ-loop = search in
+    some-here (at-loop .loop .inv .1) (at-loop-test .loop-test .taken) (at-wide .wide .ensures) (c .before .before .rest .ensures) _ _ _ (at-loop .loop .inv .2) (c .before .in-polygon .ensures) (c .if1 .taken)
 
 add-from : tie.Need-add-from Inv-loop μ-loop
-add-from c = omega (arith, room-here (c .before .before .before .before .before .before .loop .inv .1) (c .before .before .before .before .before .loop-test .taken) (c .before .before .before .wide .ensures))
+add-from c =
+    let at-wide : tie.After-wide Inv-loop μ-loop = search in
+    let at-loop-test : tie.In-loop Inv-loop μ-loop = search in
+    let at-loop : tie.At-loop Inv-loop μ-loop = search in
+    omega (arith, room-here (at-loop .loop .inv .1) (at-loop-test .loop-test .taken) (at-wide .wide .ensures))
 
 add-k : tie.Need-add-k Inv-loop μ-loop
 add-k c = omega arith
@@ -47,9 +58,11 @@ loop-less c = omega arith
 
 loop-again : tie.Need-loop-again Inv-loop μ-loop
 loop-again c =
-    let at-loop = c .before .before .before .before .before .before in
-    let some = c .before .before .before .before .before .loop-test .taken in
-    let n-is = c .before .before .before .wide .ensures in (
+    let at-wide : tie.After-wide Inv-loop μ-loop = search in
+    let at-loop-test : tie.In-loop Inv-loop μ-loop = search in
+    let at-loop : tie.At-loop Inv-loop μ-loop = search in
+    let some = at-loop-test .loop-test .taken in
+    let n-is = at-wide .wide .ensures in (
       omega arith,
       room-next (at-loop .loop .inv .1) some n-is,
       some-later (at-loop .loop .inv .1) some n-is (c .before .before .rest .ensures) _ _ _ (at-loop .loop .inv .2) (c .before .in-polygon .ensures) (c .if1 .left),

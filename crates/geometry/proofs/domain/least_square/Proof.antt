@@ -51,7 +51,8 @@ loop-again c =
 
 returns : tie.Need-returns Inv-loop μ-loop
 returns c =
-    let e : c .before .loop .i ≡ c .before .before .before .args .n = omega arith in
+    let entry : tie.Start Inv-loop μ-loop = search in
+    let e : c .before .loop .i ≡ entry .args .n = omega arith in
     rw (c .before .loop .inv .1, e)
 
 pub least-square-spec : {M : Type 1} → statement M

@@ -30,10 +30,14 @@ next-of-requires : tie.Need-next-of-requires Inv-loop μ-loop
 next-of-requires c κs = search needs
 
 node-point-requires : tie.Need-node-point-requires Inv-loop μ-loop
-node-point-requires c κs = let h = c .before .loop-test .taken in (h, c .before .before .before .before .before .pre _ h)
+node-point-requires c κs =
+    let entry : tie.Start Inv-loop μ-loop = search in
+    let h = c .before .loop-test .taken in (h, entry .pre _ h)
 
 node-point-requires-2 : tie.Need-node-point-requires-2 Inv-loop μ-loop
-node-point-requires-2 c κs = let h = c .before .next-of .ensures .1 in (h, c .before .before .before .before .before .before .pre _ h)
+node-point-requires-2 c κs =
+    let entry : tie.Start Inv-loop μ-loop = search in
+    let h = c .before .next-of .ensures .1 in (h, entry .pre _ h)
 
 segment-square-requires : tie.Need-segment-square-requires Inv-loop μ-loop
 segment-square-requires c κs = search needs

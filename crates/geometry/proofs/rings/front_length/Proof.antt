@@ -25,10 +25,14 @@ next-of-requires : tie.Need-next-of-requires Inv-loop μ-loop
 next-of-requires c κs = search needs
 
 node-point-requires : tie.Need-node-point-requires Inv-loop μ-loop
-node-point-requires c κs = let h = c .before .loop-test .taken in (h, c .before .before .before .before .before .pre _ h)
+node-point-requires c κs =
+    let entry : tie.Start Inv-loop μ-loop = search in
+    let h = c .before .loop-test .taken in (h, entry .pre _ h)
 
 node-point-requires-2 : tie.Need-node-point-requires-2 Inv-loop μ-loop
-node-point-requires-2 c κs = let h = c .before .next-of .ensures .1 in (h, c .before .before .before .before .before .before .pre _ h)
+node-point-requires-2 c κs =
+    let entry : tie.Start Inv-loop μ-loop = search in
+    let h = c .before .next-of .ensures .1 in (h, entry .pre _ h)
 
 side-length-requires : tie.Need-side-length-requires Inv-loop μ-loop
 side-length-requires c κs = search needs
@@ -40,15 +44,18 @@ loop-less : tie.Need-loop-less Inv-loop μ-loop
 loop-less c = omega arith
 
 loop-again : tie.Need-loop-again Inv-loop μ-loop
-loop-again c = (
-  omega arith,
-  length-step _ _ _ _ (record { first = c .before .before .node-point .ensures; second = rw (← c .before .before .before .next-of .ensures .0) (c .before .node-point2 .ensures) }) _ _ (c .before .before .before .before .before .loop .inv .1) (c .side-length .ensures),
-)
+loop-again c =
+    let at-next-of : tie.After-next-of Inv-loop μ-loop = search in
+    let at-loop : tie.At-loop Inv-loop μ-loop = search in (
+      omega arith,
+      length-step _ _ _ _ (record { first = c .before .before .node-point .ensures; second = rw (← at-next-of .next-of .ensures .0) (c .before .node-point2 .ensures) }) _ _ (at-loop .loop .inv .1) (c .side-length .ensures),
+    )
 
 returns : tie.Need-returns Inv-loop μ-loop
 unfolding frontLength
 returns c =
-    let e : c .before .loop .i ≡ length (c .before .before .before .before .args .nodes .now) = omega arith in
+    let entry : tie.Start Inv-loop μ-loop = search in
+    let e : c .before .loop .i ≡ length (entry .args .nodes .now) = omega arith in
     rw (c .before .loop .inv .1, e)
 
 pub front-length-spec : {M : Type 1} → statement M

@@ -23,13 +23,13 @@ sub-last c = omega (arith, c .if1 .left)
 
 node-point-requires : tie.Need-node-point-requires Inv-loop μ-loop
 node-point-requires c κs =
-    let s = c .before .before .before in
+    let s : tie.Start Inv-loop μ-loop = search in
     let h : length (s .args .nodes .now) - 1 < length (s .args .nodes .now) = omega (arith, c .if1 .left) in
     (h, s .pre _ h)
 
 node-point-requires-2 : tie.Need-node-point-requires-2 Inv-loop μ-loop
 node-point-requires-2 c κs =
-    let s = c .before .before .before .before in
+    let s : tie.Start Inv-loop μ-loop = search in
     let h : 0 < length (s .args .nodes .now) = omega (arith, c .before .if1 .left) in
     (h, s .pre _ h)
 
@@ -46,18 +46,21 @@ add-j c = omega arith
 
 node-point-requires-3 : tie.Need-node-point-requires-3 Inv-loop μ-loop
 node-point-requires-3 c κs =
-    let s = c .before .before .before .before .before .before .before .before .before .before in
+    let s : tie.Start Inv-loop μ-loop = search in
     let h : c .before .loop .i + 1 < length (s .args .nodes .now) = omega arith in
     (h, s .pre _ h)
 
 node-point-requires-4 : tie.Need-node-point-requires-4 Inv-loop μ-loop
 node-point-requires-4 c κs =
-    let s = c .before .before .before .before .before .before .before .before .before .before .before .before .before .before in
-    let h : c .before .before .before .before .before .loop .i < length (s .args .nodes .now) = omega arith in
+    let at-loop : tie.At-loop Inv-loop μ-loop = search in
+    let s : tie.Start Inv-loop μ-loop = search in
+    let h : at-loop .loop .i < length (s .args .nodes .now) = omega arith in
     (h, s .pre _ h)
 
 crosses-between-requires : tie.Need-crosses-between-requires Inv-loop μ-loop
-crosses-between-requires c κs = (test-at (c .before .before .before .before .before .before .loop .inv .1) _ (c .node-point4 .ensures), refl)
+crosses-between-requires c κs =
+    let at-loop : tie.At-loop Inv-loop μ-loop = search in
+    (test-at (at-loop .loop .inv .1) _ (c .node-point4 .ensures), refl)
 
 loop-less : tie.Need-loop-less Inv-loop μ-loop
 loop-less c = omega arith

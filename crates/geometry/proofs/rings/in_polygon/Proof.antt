@@ -44,7 +44,9 @@ point-at-requires-4 : tie.Need-point-at-requires-4 Inv-loop μ-loop
 point-at-requires-4 c κs = omega arith
 
 crosses-between-requires : tie.Need-crosses-between-requires Inv-loop μ-loop
-crosses-between-requires c κs = (test-at (c .before .before .before .before .before .before .loop .inv .1) _ (c .point-at4 .ensures), refl)
+crosses-between-requires c κs =
+    let at-loop : tie.At-loop Inv-loop μ-loop = search in
+    (test-at (at-loop .loop .inv .1) _ (c .point-at4 .ensures), refl)
 
 loop-less : tie.Need-loop-less Inv-loop μ-loop
 loop-less c = omega arith

@@ -84,8 +84,10 @@ area-term-requires-4 c κs = search needs
 returns-2 : tie.Need-returns-2 Inv-loop μ-loop Inv-loop2 μ-loop2
 unfolding signedArea
 returns-2 c =
-    let inv = c .before .before .before .loop .inv in
-    rw (two-is, all-added (inv .2) (inv .0) _ _ (c .before .if2 .taken) (c .before .before .before .before .point-at .ensures) (c .area-term4 .ensures))
+    let at-loop : tie.At-loop Inv-loop μ-loop Inv-loop2 μ-loop2 = search in
+    let at-point-at : tie.After-point-at Inv-loop μ-loop Inv-loop2 μ-loop2 = search in
+    let inv = at-loop .loop .inv in
+    rw (two-is, all-added (inv .2) (inv .0) _ _ (c .before .if2 .taken) (at-point-at .point-at .ensures) (c .area-term4 .ensures))
 
 loop2-holds : tie.Need-loop2-holds Inv-loop μ-loop Inv-loop2 μ-loop2
 loop2-holds c = c .before .before .loop .inv
@@ -104,7 +106,8 @@ loop2-less c = omega arith
 
 loop2-again : tie.Need-loop2-again Inv-loop μ-loop Inv-loop2 μ-loop2
 loop2-again c =
-    let inv = c .before .before .before .loop2 .inv in
+    let at-loop2 : tie.At-loop2 Inv-loop μ-loop Inv-loop2 μ-loop2 = search in
+    let inv = at-loop2 .loop2 .inv in
     (omega arith, omega arith, one-added (inv .2) (inv .0) _ _ _ refl (c .before .before .loop2-test .taken) (c .before .point-at5 .ensures) (c .area-term5 .ensures))
 
 area-term-requires-6 : tie.Need-area-term-requires-6 Inv-loop μ-loop Inv-loop2 μ-loop2
@@ -113,8 +116,9 @@ area-term-requires-6 c κs = search needs
 returns-3 : tie.Need-returns-3 Inv-loop μ-loop Inv-loop2 μ-loop2
 unfolding signedArea
 returns-3 c =
+    let at-point-at : tie.After-point-at Inv-loop μ-loop Inv-loop2 μ-loop2 = search in
     let inv = c .before .before .loop2 .inv in
-    rw (two-is, all-added (inv .2) (inv .0) _ _ (omega arith) (c .before .before .before .before .before .before .point-at .ensures) (c .area-term6 .ensures))
+    rw (two-is, all-added (inv .2) (inv .0) _ _ (omega arith) (at-point-at .point-at .ensures) (c .area-term6 .ensures))
 
 pub signed-area-spec : {M : Type 1} → statement M
 signed-area-spec =

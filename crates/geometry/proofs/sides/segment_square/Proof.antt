@@ -10,7 +10,10 @@ clamp-unit-requires : tie.Need-clamp-unit-requires
 clamp-unit-requires c κs = search needs
 
 returns-2 : tie.Need-returns-2
-returns-2 c = to-foot _ _ _ _ _ (c .before .before .before .before .before .if1 .left) (c .before .before .before .before .clamp-unit .ensures)
+returns-2 c =
+    let at-clamp-unit : tie.After-clamp-unit = search in
+    let at-if1 : tie.Else1 = search in
+    to-foot _ _ _ _ _ (at-if1 .if1 .left) (at-clamp-unit .clamp-unit .ensures)
 
 pub segment-square-spec : {M : Type 1} → statement M
 segment-square-spec = tie.close (tie.spec returns clamp-unit-requires returns-2)

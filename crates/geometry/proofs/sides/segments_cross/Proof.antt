@@ -22,10 +22,17 @@ far-apart-requires-2 : tie.Need-far-apart-requires-2
 far-apart-requires-2 c κs = search needs
 
 returns : tie.Need-returns
-returns c = both-sides _ _ _ _ _ _ _ (c .before .before .before .before .before .before .turn-of .ensures) (c .before .before .before .before .before .turn-of2 .ensures) (c .before .before .before .before .far-apart .ensures) _ _ _ (c .before .before .before .if1 .taken) (c .before .before .turn-of3 .ensures) (c .before .turn-of4 .ensures) (c .far-apart2 .ensures)
+returns c =
+    let at-if1 : tie.Then1 = search in
+    let at-far-apart : tie.After-far-apart = search in
+    let at-turn-of2 : tie.After-turn-of2 = search in
+    let at-turn-of : tie.After-turn-of = search in
+    both-sides _ _ _ _ _ _ _ (at-turn-of .turn-of .ensures) (at-turn-of2 .turn-of2 .ensures) (at-far-apart .far-apart .ensures) _ _ _ (at-if1 .if1 .taken) (c .before .before .turn-of3 .ensures) (c .before .turn-of4 .ensures) (c .far-apart2 .ensures)
 
 returns-2 : tie.Need-returns-2
-returns-2 c = one-side _ _ _ _ _ _ _ (c .before .before .before .turn-of .ensures) (c .before .before .turn-of2 .ensures) (c .before .far-apart .ensures) (c .if1 .left)
+returns-2 c =
+    let at-turn-of : tie.After-turn-of = search in
+    one-side _ _ _ _ _ _ _ (at-turn-of .turn-of .ensures) (c .before .before .turn-of2 .ensures) (c .before .far-apart .ensures) (c .if1 .left)
 
 pub segments-cross-spec : {M : Type 1} → statement M
 segments-cross-spec =

@@ -4,7 +4,9 @@ use Rattle.rows.proofs.call.next_row.Statement.{statement}
 use Rattle.rows.proofs.call.next_row.Tie as tie
 
 row-on-requires : tie.Need-row-on-requires
-row-on-requires c κs = let p = c .before .before .before .before .before .before .before .before .before .before .before .before .pre in (p .0, ((λ _. p .1 .0), p .1 .1))
+row-on-requires c κs =
+    let entry : tie.Start = search in
+    let p = entry .pre in (p .0, ((λ _. p .1 .0), p .1 .1))
 
 same-length : tie.Need-same-length
 same-length c = search needs

@@ -20,16 +20,22 @@ input-number-requires c κs = search needs
 
 returns : tie.Need-returns
 unfolding rowCall
-returns c = let a = c .before .before .before .before .before .before .before .before .before .args in let b : Lent = lent (a .points .now) (a .quads .now) (a .front-nodes .now) (a .front-lengths .now) (a .counts .now) in
+returns c =
+    let entry : tie.Start = search in
+    let a = entry .args in let b : Lent = lent (a .points .now) (a .quads .now) (a .front-nodes .now) (a .front-lengths .now) (a .counts .now) in
     let j : Job = job (a .coords .now) (a .loop-lengths .now) (a .h) (a .options) in
     let e = c .before .input-number .ensures in
     input-refuses j b (rowAt j (a .front)) _ e (c .if1 .taken)
 
 wrong-state-requires : tie.Need-wrong-state-requires
-wrong-state-requires c κs = let a = c .before .before .before .before .before .before .before .before .before .before .before .before .before .before .args in let b : Lent = lent (a .points .now) (a .quads .now) (a .front-nodes .now) (a .front-lengths .now) (a .counts .now) in
+wrong-state-requires c κs =
+    let at-if1 : tie.Else1 = search in
+    let at-input-number : tie.After-input-number = search in
+    let entry : tie.Start = search in
+    let a = entry .args in let b : Lent = lent (a .points .now) (a .quads .now) (a .front-nodes .now) (a .front-lengths .now) (a .counts .now) in
     let j : Job = job (a .coords .now) (a .loop-lengths .now) (a .h) (a .options) in
-    let e = c .before .before .before .before .before .before .input-number .ensures in
-    let l = right-lengths j b _ e (c .before .before .before .before .before .if1 .left) in
+    let e = at-input-number .input-number .ensures in
+    let l = right-lengths j b _ e (at-if1 .if1 .left) in
     l
 
 same-length : tie.Need-same-length
@@ -49,16 +55,24 @@ same-length-5 c = search needs
 
 returns-2 : tie.Need-returns-2
 unfolding rowCall
-returns-2 c = let a = c .before .before .before .before .before .before .before .before .before .before .before .before .before .before .before .before .args in let b : Lent = lent (a .points .now) (a .quads .now) (a .front-nodes .now) (a .front-lengths .now) (a .counts .now) in
+returns-2 c =
+    let at-if1 : tie.Else1 = search in
+    let at-input-number : tie.After-input-number = search in
+    let entry : tie.Start = search in
+    let a = entry .args in let b : Lent = lent (a .points .now) (a .quads .now) (a .front-nodes .now) (a .front-lengths .now) (a .counts .now) in
     let j : Job = job (a .coords .now) (a .loop-lengths .now) (a .h) (a .options) in
-    let e = c .before .before .before .before .before .before .before .before .input-number .ensures in
-    state-refuses j b (rowAt j (a .front)) _ e (c .before .before .before .before .before .before .before .if1 .left) _ (c .before .wrong-state .ensures) (c .if2 .taken)
+    let e = at-input-number .input-number .ensures in
+    state-refuses j b (rowAt j (a .front)) _ e (at-if1 .if1 .left) _ (c .before .wrong-state .ensures) (c .if2 .taken)
 
 slice-read-if3 : tie.Need-slice-read-if3
-slice-read-if3 c = let a = c .before .before .before .before .before .before .before .before .before .before .before .before .before .before .before .before .before .args in let b : Lent = lent (a .points .now) (a .quads .now) (a .front-nodes .now) (a .front-lengths .now) (a .counts .now) in
+slice-read-if3 c =
+    let at-if1 : tie.Else1 = search in
+    let at-input-number : tie.After-input-number = search in
+    let entry : tie.Start = search in
+    let a = entry .args in let b : Lent = lent (a .points .now) (a .quads .now) (a .front-nodes .now) (a .front-lengths .now) (a .counts .now) in
     let j : Job = job (a .coords .now) (a .loop-lengths .now) (a .h) (a .options) in
-    let e = c .before .before .before .before .before .before .before .before .before .input-number .ensures in
-    let l = right-lengths j b _ e (c .before .before .before .before .before .before .before .before .if1 .left) in
+    let e = at-input-number .input-number .ensures in
+    let l = right-lengths j b _ e (at-if1 .if1 .left) in
     let k : length (a .counts .now) ≡ 8 = ap (λ (k : Lengths). k .counts) l in omega arith
 
 same-length-6 : tie.Need-same-length-6
@@ -78,23 +92,36 @@ same-length-10 c = search needs
 
 returns-3 : tie.Need-returns-3
 unfolding rowCall
-returns-3 c = let a = c .before .before .before .before .before .before .before .before .before .before .before .before .before .before .before .before .before .before .args in let b : Lent = lent (a .points .now) (a .quads .now) (a .front-nodes .now) (a .front-lengths .now) (a .counts .now) in
+returns-3 c =
+    let at-wrong-state : tie.After-wrong-state = search in
+    let at-if1 : tie.Else1 = search in
+    let at-input-number : tie.After-input-number = search in
+    let entry : tie.Start = search in
+    let a = entry .args in let b : Lent = lent (a .points .now) (a .quads .now) (a .front-nodes .now) (a .front-lengths .now) (a .counts .now) in
     let j : Job = job (a .coords .now) (a .loop-lengths .now) (a .h) (a .options) in
-    let e = c .before .before .before .before .before .before .before .before .before .before .input-number .ensures in
-    let l = right-lengths j b _ e (c .before .before .before .before .before .before .before .before .before .if1 .left) in
-    let s = sound b l (sym (c .before .before .before .wrong-state .ensures) ∙ c .before .before .if2 .left) in
-    state-stands j b (rowAt j (a .front)) _ e (c .before .before .before .before .before .before .before .before .before .if1 .left) _ (c .before .before .before .wrong-state .ensures) (c .before .before .if2 .left) _ (no-front j (a .front) b s (c .if3 .taken))
+    let e = at-input-number .input-number .ensures in
+    let l = right-lengths j b _ e (at-if1 .if1 .left) in
+    let s = sound b l (sym (at-wrong-state .wrong-state .ensures) ∙ c .before .before .if2 .left) in
+    state-stands j b (rowAt j (a .front)) _ e (at-if1 .if1 .left) _ (at-wrong-state .wrong-state .ensures) (c .before .before .if2 .left) _ (no-front j (a .front) b s (c .if3 .taken))
 
 count-requires : tie.Need-count-requires
 count-requires c κs = search needs
 
 row-on-requires : tie.Need-row-on-requires
-row-on-requires c κs = let a = c .before .before .before .before .before .before .before .before .before .before .before .before .before .before .before .before .before .before .before .before .before .before .before .before .args in let b : Lent = lent (a .points .now) (a .quads .now) (a .front-nodes .now) (a .front-lengths .now) (a .counts .now) in
+row-on-requires c κs =
+    let at-count : tie.After-count = search in
+    let at-if3 : tie.Else3 = search in
+    let at-if2 : tie.Else2 = search in
+    let at-wrong-state : tie.After-wrong-state = search in
+    let at-if1 : tie.Else1 = search in
+    let at-input-number : tie.After-input-number = search in
+    let entry = at-input-number .before .before .before .before .before .before .before .before in
+    let a = entry .args in let b : Lent = lent (a .points .now) (a .quads .now) (a .front-nodes .now) (a .front-lengths .now) (a .counts .now) in
     let j : Job = job (a .coords .now) (a .loop-lengths .now) (a .h) (a .options) in
-    let e = c .before .before .before .before .before .before .before .before .before .before .before .before .before .before .before .before .input-number .ensures in
-    let l = right-lengths j b _ e (c .before .before .before .before .before .before .before .before .before .before .before .before .before .before .before .if1 .left) in
-    let s = sound b l (sym (c .before .before .before .before .before .before .before .before .before .wrong-state .ensures) ∙ c .before .before .before .before .before .before .before .before .if2 .left) in
-    let f = c .before .before .before .before .before .count .ensures in (s, ((λ h. absurd (true≢false (sym h))), (rw f (c .before .before .before .before .before .before .if3 .left), outline-read j b _ e (c .before .before .before .before .before .before .before .before .before .before .before .before .before .before .before .if1 .left))))
+    let e = at-input-number .input-number .ensures in
+    let l = right-lengths j b _ e (at-if1 .if1 .left) in
+    let s = sound b l (sym (at-wrong-state .wrong-state .ensures) ∙ at-if2 .if2 .left) in
+    let f = at-count .count .ensures in (s, ((λ h. absurd (true≢false (sym h))), (rw f (at-if3 .if3 .left), outline-read j b _ e (at-if1 .if1 .left))))
 
 same-length-11 : tie.Need-same-length-11
 same-length-11 c = search needs
@@ -113,13 +140,22 @@ same-length-15 c = search needs
 
 returns-4 : tie.Need-returns-4
 unfolding rowCall
-returns-4 c = let a = c .before .before .before .before .before .before .before .before .before .before .before .before .before .before .before .before .before .before .before .before .before .before .before .before .before .before .before .before .before .before .before .before .before .before .before .args in let b : Lent = lent (a .points .now) (a .quads .now) (a .front-nodes .now) (a .front-lengths .now) (a .counts .now) in
+returns-4 c =
+    let at-row-on : tie.After-row-on = search in
+    let at-count : tie.After-count = search in
+    let at-if3 : tie.Else3 = search in
+    let at-if2 : tie.Else2 = search in
+    let at-wrong-state : tie.After-wrong-state = search in
+    let at-if1 : tie.Else1 = search in
+    let at-input-number : tie.After-input-number = search in
+    let entry = at-input-number .before .before .before .before .before .before .before .before in
+    let a = entry .args in let b : Lent = lent (a .points .now) (a .quads .now) (a .front-nodes .now) (a .front-lengths .now) (a .counts .now) in
     let j : Job = job (a .coords .now) (a .loop-lengths .now) (a .h) (a .options) in
-    let e = c .before .before .before .before .before .before .before .before .before .before .before .before .before .before .before .before .before .before .before .before .before .before .before .before .before .before .before .input-number .ensures in
-    let l = right-lengths j b _ e (c .before .before .before .before .before .before .before .before .before .before .before .before .before .before .before .before .before .before .before .before .before .before .before .before .before .before .if1 .left) in
-    let s = sound b l (sym (c .before .before .before .before .before .before .before .before .before .before .before .before .before .before .before .before .before .before .before .before .wrong-state .ensures) ∙ c .before .before .before .before .before .before .before .before .before .before .before .before .before .before .before .before .before .before .before .if2 .left) in
-    state-stands j b (rowAt j (a .front)) _ e (c .before .before .before .before .before .before .before .before .before .before .before .before .before .before .before .before .before .before .before .before .before .before .before .before .before .before .if1 .left) _ (c .before .before .before .before .before .before .before .before .before .before .before .before .before .before .before .before .before .before .before .before .wrong-state .ensures) (c .before .before .before .before .before .before .before .before .before .before .before .before .before .before .before .before .before .before .before .if2 .left) _
-    (a-front j (a .front) b s _ (c .before .before .before .before .before .before .before .before .before .before .before .before .before .before .before .before .before .if3 .left) (rw (c .before .before .before .before .before .before .before .before .before .before .before .before .before .before .before .before .count .ensures) at (c .before .before .before .before .before .before .before .before .before .before .row-on .ensures)))
+    let e = at-input-number .input-number .ensures in
+    let l = right-lengths j b _ e (at-if1 .if1 .left) in
+    let s = sound b l (sym (at-wrong-state .wrong-state .ensures) ∙ at-if2 .if2 .left) in
+    state-stands j b (rowAt j (a .front)) _ e (at-if1 .if1 .left) _ (at-wrong-state .wrong-state .ensures) (at-if2 .if2 .left) _
+    (a-front j (a .front) b s _ (at-if3 .if3 .left) (rw (at-count .count .ensures) at (at-row-on .row-on .ensures)))
 
 pub row-spec : {M : Type 1} → statement M
 row-spec =

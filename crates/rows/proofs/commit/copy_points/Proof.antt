@@ -28,7 +28,9 @@ add-points : tie.Need-add-points Inv-loop μ-loop
 add-points c = omega arith
 
 mul-points-2 : tie.Need-mul-points-2 Inv-loop μ-loop
-mul-points-2 c = scaled-fits _ (length (c .before .before .before .args .points .now)) 8 (omega arith) (c .before .before .before .good .0 .1)
+mul-points-2 c =
+    let entry : tie.Start Inv-loop μ-loop = search in
+    scaled-fits _ (length (entry .args .points .now)) 8 (omega arith) (entry .good .0 .1)
 
 slice-write-points : tie.Need-slice-write-points Inv-loop μ-loop
 slice-write-points c = omega arith
@@ -40,7 +42,9 @@ loop-less : tie.Need-loop-less Inv-loop μ-loop
 loop-less c = omega arith
 
 loop-again : tie.Need-loop-again Inv-loop μ-loop
-loop-again c = (omega arith, simp length-set (c .before .before .loop .inv .1), copied (c .before .before .before .args .points .now) (c .before .before .before .args .row .now) (c .before .before .loop .points) (c .before .before .before .args .at) (c .before .before .loop .i) _ (c .before .before .loop .inv .2) (c .before .loop-test .taken))
+loop-again c =
+    let entry : tie.Start Inv-loop μ-loop = search in
+    (omega arith, simp length-set (c .before .before .loop .inv .1), copied (entry .args .points .now) (entry .args .row .now) (c .before .before .loop .points) (entry .args .at) (c .before .before .loop .i) _ (c .before .before .loop .inv .2) (c .before .loop-test .taken))
 
 same-length : tie.Need-same-length Inv-loop μ-loop
 same-length c = c .before .loop .inv .1

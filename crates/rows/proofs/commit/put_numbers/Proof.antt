@@ -30,7 +30,9 @@ add-nodes : tie.Need-add-nodes Inv-loop μ-loop
 add-nodes c = omega arith
 
 mul-nodes : tie.Need-mul-nodes Inv-loop μ-loop
-mul-nodes c = scaled-fits _ (length (c .before .before .before .before .args .nodes .now)) 2 (omega arith) (c .before .before .before .before .good .0 .1)
+mul-nodes c =
+    let entry : tie.Start Inv-loop μ-loop = search in
+    scaled-fits _ (length (entry .args .nodes .now)) 2 (omega arith) (entry .good .0 .1)
 
 slice-write-nodes : tie.Need-slice-write-nodes Inv-loop μ-loop
 slice-write-nodes c = omega arith
@@ -42,13 +44,17 @@ loop-less : tie.Need-loop-less Inv-loop μ-loop
 loop-less c = omega arith
 
 loop-again : tie.Need-loop-again Inv-loop μ-loop
-loop-again c = (omega arith, simp length-set (c .before .before .loop .inv .1), number-more (c .before .before .before .before .args .nodes .now) (c .before .before .loop .nodes) (c .before .before .before .before .args .start) (c .before .before .before .before .args .first) (c .before .before .loop .i) _ (c .before .before .loop .inv .2) (c .narrow .ensures))
+loop-again c =
+    let entry : tie.Start Inv-loop μ-loop = search in
+    (omega arith, simp length-set (c .before .before .loop .inv .1), number-more (entry .args .nodes .now) (c .before .before .loop .nodes) (entry .args .start) (entry .args .first) (c .before .before .loop .i) _ (c .before .before .loop .inv .2) (c .narrow .ensures))
 
 same-length : tie.Need-same-length Inv-loop μ-loop
 same-length c = c .before .loop .inv .1
 
 returns : tie.Need-returns Inv-loop μ-loop
-returns c = let e : c .before .loop .i ≡ c .before .before .before .args .n = omega arith in rw e at (c .before .loop .inv .2)
+returns c =
+    let entry : tie.Start Inv-loop μ-loop = search in
+    let e : c .before .loop .i ≡ entry .args .n = omega arith in rw e at (c .before .loop .inv .2)
 
 pub put-numbers-spec : {M : Type 1} → statement M
 put-numbers-spec =

@@ -65,13 +65,21 @@ loop-less : tie.Need-loop-less Inv-loop μ-loop
 loop-less c = omega arith
 
 loop-again : tie.Need-loop-again Inv-loop μ-loop
-loop-again c = (omega arith, c .before .before .put-quad .kept .0 ∙ c .before .before .before .before .before .before .before .before .before .before .loop .inv .1, quads-more (c .before .before .before .before .before .before .before .before .before .before .before .before .before .args .quads .now) (c .before .before .before .before .before .before .before .before .before .before .loop .quads) _ (c .before .before .before .before .before .before .before .before .before .before .before .before .before .args .old .now) (c .before .before .before .before .before .before .before .before .before .before .before .before .before .args .at) (c .before .before .before .before .before .before .before .before .before .before .before .before .before .args .first) (c .before .before .before .before .before .before .before .before .before .before .loop .i) _ _ _ _ _ (c .before .before .before .before .before .before .before .before .before .before .loop .inv .2) (c .before .before .put-quad .ensures) (c .before .before .before .before .before .before .before .before .next-of .ensures .0) refl refl (c .before .before .before .before .before .before .before .narrow .ensures) (c .before .before .before .before .before .before .narrow2 .ensures))
+loop-again c =
+    let at-narrow2 : tie.After-narrow2 Inv-loop μ-loop = search in
+    let at-narrow : tie.After-narrow Inv-loop μ-loop = search in
+    let at-next-of : tie.After-next-of Inv-loop μ-loop = search in
+    let at-loop : tie.At-loop Inv-loop μ-loop = search in
+    let entry : tie.Start Inv-loop μ-loop = search in
+    (omega arith, c .before .before .put-quad .kept .0 ∙ at-loop .loop .inv .1, quads-more (entry .args .quads .now) (at-loop .loop .quads) _ (entry .args .old .now) (entry .args .at) (entry .args .first) (at-loop .loop .i) _ _ _ _ _ (at-loop .loop .inv .2) (c .before .before .put-quad .ensures) (at-next-of .next-of .ensures .0) refl refl (at-narrow .narrow .ensures) (at-narrow2 .narrow2 .ensures))
 
 same-length : tie.Need-same-length Inv-loop μ-loop
 same-length c = c .before .loop .inv .1
 
 returns : tie.Need-returns Inv-loop μ-loop
-returns c = let e : c .before .loop .i ≡ length (c .before .before .before .before .args .old .now) = omega arith in rw e at (c .before .loop .inv .2)
+returns c =
+    let entry : tie.Start Inv-loop μ-loop = search in
+    let e : c .before .loop .i ≡ length (entry .args .old .now) = omega arith in rw e at (c .before .loop .inv .2)
 
 pub put-row-quads-spec : {M : Type 1} → statement M
 put-row-quads-spec =

@@ -9,7 +9,9 @@ slice-aggregate-repeats-by : tie.Need-slice-aggregate-repeats-by
 slice-aggregate-repeats-by c = search needs
 
 repeats-by-requires : tie.Need-repeats-by-requires
-repeats-by-requires c κs = (refl, (λ i g. let h = c .before .before .before .pre .1 i g in omega arith))
+repeats-by-requires c κs =
+    let entry : tie.Start = search in
+    (refl, (λ i g. let h = entry .pre .1 i g in omega arith))
 
 returns : tie.Need-returns
 returns c = search needs
@@ -18,7 +20,9 @@ slice-aggregate-repeats-by-2 : tie.Need-slice-aggregate-repeats-by-2
 slice-aggregate-repeats-by-2 c = search needs
 
 repeats-by-requires-2 : tie.Need-repeats-by-requires-2
-repeats-by-requires-2 c κs = (refl, (λ i g. let h = c .before .before .before .pre .1 i g in omega arith))
+repeats-by-requires-2 c κs =
+    let entry : tie.Start = search in
+    (refl, (λ i g. let h = entry .pre .1 i g in omega arith))
 
 returns-2 : tie.Need-returns-2
 returns-2 c = search needs

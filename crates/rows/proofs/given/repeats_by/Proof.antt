@@ -26,16 +26,30 @@ wide-requires : tie.Need-wide-requires Inv-loop μ-loop
 wide-requires c κs = search needs
 
 slice-read-if1 : tie.Need-slice-read-if1 Inv-loop μ-loop
-slice-read-if1 c = rw (c .before .before .before .before .loop .inv .1 .long, c .before .wide .ensures) (c .before .before .before .before .before .before .before .pre .1 _ (c .before .before .before .loop-test .taken))
+slice-read-if1 c =
+    let at-loop-test : tie.In-loop Inv-loop μ-loop = search in
+    let at-loop : tie.At-loop Inv-loop μ-loop = search in
+    let entry : tie.Start Inv-loop μ-loop = search in
+    rw (at-loop .loop .inv .1 .long, c .before .wide .ensures) (entry .pre .1 _ (at-loop-test .loop-test .taken))
 
 same-length : tie.Need-same-length Inv-loop μ-loop
-same-length c = c .before .before .before .before .before .loop .inv .1 .long
+same-length c =
+    let at-loop : tie.At-loop Inv-loop μ-loop = search in
+    at-loop .loop .inv .1 .long
 
 returns : tie.Need-returns Inv-loop μ-loop
-returns c = let e = c .before .before .wide .ensures in let l = c .before .before .before .before .before .loop in let h = c .before .before .before .before .loop-test .taken in let n = c .before .before .before .before .before .before .before .before .args .nodes .now in met-before _ n (l .i) _ (l .met) (l .inv .1) h e (rw e (c .before .before .before .before .before .before .before .before .pre .1 _ h)) (c .if1 .taken)
+returns c =
+    let at-loop-test : tie.In-loop Inv-loop μ-loop = search in
+    let at-loop : tie.At-loop Inv-loop μ-loop = search in
+    let entry : tie.Start Inv-loop μ-loop = search in
+    let e = c .before .before .wide .ensures in let l = at-loop .loop in let h = at-loop-test .loop-test .taken in let n = entry .args .nodes .now in met-before _ n (l .i) _ (l .met) (l .inv .1) h e (rw e (entry .pre .1 _ h)) (c .if1 .taken)
 
 slice-write-met : tie.Need-slice-write-met Inv-loop μ-loop
-slice-write-met c = rw (c .before .before .before .before .before .loop .inv .1 .long, c .before .before .wide .ensures) (c .before .before .before .before .before .before .before .before .pre .1 _ (c .before .before .before .before .loop-test .taken))
+slice-write-met c =
+    let at-loop-test : tie.In-loop Inv-loop μ-loop = search in
+    let at-loop : tie.At-loop Inv-loop μ-loop = search in
+    let entry : tie.Start Inv-loop μ-loop = search in
+    rw (at-loop .loop .inv .1 .long, c .before .before .wide .ensures) (entry .pre .1 _ (at-loop-test .loop-test .taken))
 
 add-i : tie.Need-add-i Inv-loop μ-loop
 add-i c = omega arith
@@ -44,13 +58,19 @@ loop-less : tie.Need-loop-less Inv-loop μ-loop
 loop-less c = omega arith
 
 loop-again : tie.Need-loop-again Inv-loop μ-loop
-loop-again c = let e = c .before .before .wide .ensures in let l = c .before .before .before .before .before .loop in let h = c .before .before .before .before .loop-test .taken in let n = c .before .before .before .before .before .before .before .before .args .nodes .now in (omega arith, mark _ n (l .i) _ (l .met) (l .inv .1) h e (rw e (c .before .before .before .before .before .before .before .before .pre .1 _ h)) (c .if1 .left))
+loop-again c =
+    let at-loop-test : tie.In-loop Inv-loop μ-loop = search in
+    let at-loop : tie.At-loop Inv-loop μ-loop = search in
+    let entry : tie.Start Inv-loop μ-loop = search in
+    let e = c .before .before .wide .ensures in let l = at-loop .loop in let h = at-loop-test .loop-test .taken in let n = entry .args .nodes .now in (omega arith, mark _ n (l .i) _ (l .met) (l .inv .1) h e (rw e (entry .pre .1 _ h)) (c .if1 .left))
 
 same-length-2 : tie.Need-same-length-2 Inv-loop μ-loop
 same-length-2 c = c .before .loop .inv .1 .long
 
 returns-2 : tie.Need-returns-2 Inv-loop μ-loop
-returns-2 c = all-marked _ (c .before .before .before .before .args .nodes .now) (c .before .loop .i) (c .before .loop .met) (c .before .loop .inv .1) (c .loop-test .left)
+returns-2 c =
+    let entry : tie.Start Inv-loop μ-loop = search in
+    all-marked _ (entry .args .nodes .now) (c .before .loop .i) (c .before .loop .met) (c .before .loop .inv .1) (c .loop-test .left)
 
 pub repeats-by-spec : {M : Type 1} → statement M
 repeats-by-spec =

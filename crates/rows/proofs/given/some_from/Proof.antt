@@ -29,7 +29,11 @@ wide-requires : tie.Need-wide-requires Inv-loop μ-loop
 wide-requires c κs = search needs
 
 returns : tie.Need-returns Inv-loop μ-loop
-returns c = sym (c .before .before .before .before .loop .inv .1 ∙ from-here (c .before .before .before .before .before .before .args .n) (c .before .before .before .before .before .before .args .nodes .now) (c .before .before .before .before .loop .i) _ (c .before .before .before .loop-test .taken) (c .before .wide .ensures) ∙ rw (le-leb _ _ (c .if1 .taken)))
+returns c =
+    let at-loop-test : tie.In-loop Inv-loop μ-loop = search in
+    let at-loop : tie.At-loop Inv-loop μ-loop = search in
+    let entry : tie.Start Inv-loop μ-loop = search in
+    sym (at-loop .loop .inv .1 ∙ from-here (entry .args .n) (entry .args .nodes .now) (at-loop .loop .i) _ (at-loop-test .loop-test .taken) (c .before .wide .ensures) ∙ rw (le-leb _ _ (c .if1 .taken)))
 
 add-i : tie.Need-add-i Inv-loop μ-loop
 add-i c = omega arith
@@ -38,10 +42,16 @@ loop-less : tie.Need-loop-less Inv-loop μ-loop
 loop-less c = omega arith
 
 loop-again : tie.Need-loop-again Inv-loop μ-loop
-loop-again c = (omega arith, c .before .before .before .before .loop .inv .1 ∙ from-here (c .before .before .before .before .before .before .args .n) (c .before .before .before .before .before .before .args .nodes .now) (c .before .before .before .before .loop .i) _ (c .before .before .before .loop-test .taken) (c .before .wide .ensures) ∙ rw (lt-leb _ _ (c .if1 .left)))
+loop-again c =
+    let at-loop-test : tie.In-loop Inv-loop μ-loop = search in
+    let at-loop : tie.At-loop Inv-loop μ-loop = search in
+    let entry : tie.Start Inv-loop μ-loop = search in
+    (omega arith, at-loop .loop .inv .1 ∙ from-here (entry .args .n) (entry .args .nodes .now) (at-loop .loop .i) _ (at-loop-test .loop-test .taken) (c .before .wide .ensures) ∙ rw (lt-leb _ _ (c .if1 .left)))
 
 returns-2 : tie.Need-returns-2 Inv-loop μ-loop
-returns-2 c = sym (c .before .loop .inv .1 ∙ from-end (c .before .before .before .args .n) (c .before .before .before .args .nodes .now) (c .before .loop .i) (c .loop-test .left))
+returns-2 c =
+    let entry : tie.Start Inv-loop μ-loop = search in
+    sym (c .before .loop .inv .1 ∙ from-end (entry .args .n) (entry .args .nodes .now) (c .before .loop .i) (c .loop-test .left))
 
 pub some-from-spec : {M : Type 1} → statement M
 some-from-spec =

@@ -33,11 +33,17 @@ count-requires-3 : tie.Need-count-requires-3
 count-requires-3 c κs = search needs
 
 slice-aggregate-front-at : tie.Need-slice-aggregate-front-at
-slice-aggregate-front-at c = let S = c .before .before .before .before .before .before .before .before .before .before .before .before .before .pre .0 in let e = c .before .count3 .ensures in sym (length-take-le _ (c .before .before .before .before .before .before .before .before .before .before .before .before .before .args .front-lengths .now) (omega arith))
+slice-aggregate-front-at c =
+    let entry : tie.Start = search in
+    let S = entry .pre .0 in let e = c .before .count3 .ensures in sym (length-take-le _ (entry .args .front-lengths .now) (omega arith))
 
 front-at-requires : tie.Need-front-at-requires
-front-at-requires c κs = let a = c .before .before .before .before .before .before .before .before .before .before .before .before .before .args in let b : Lent = lent (a .points .now) (a .quads .now) (a .front-nodes .now) (a .front-lengths .now) (a .counts .now) in
-    let S = c .before .before .before .before .before .before .before .before .before .before .before .before .before .pre .0 in let R = c .before .before .before .before .before .before .before .before .before .before .before .before .before .pre .1 .1 in let e1 = c .before .before .before .before .before .count .ensures in let e2 = c .before .before .before .count2 .ensures in let e3 = c .before .count3 .ensures in
+front-at-requires c κs =
+    let at-count2 : tie.After-count2 = search in
+    let at-count : tie.After-count = search in
+    let entry : tie.Start = search in
+    let a = entry .args in let b : Lent = lent (a .points .now) (a .quads .now) (a .front-nodes .now) (a .front-lengths .now) (a .counts .now) in
+    let S = entry .pre .0 in let R = entry .pre .1 .1 in let e1 = at-count .count .ensures in let e2 = at-count2 .count2 .ensures in let e3 = c .before .count3 .ensures in
     let k : length (take (c .before .count3 .result) (a .front-lengths .now)) ≤ 16 = simp length-take (omega arith) in
     (rw e3 (R .front), k)
 
@@ -51,67 +57,115 @@ mul-put-row-quads : tie.Need-mul-put-row-quads
 mul-put-row-quads c = search needs
 
 nodes-of-requires : tie.Need-nodes-of-requires
-nodes-of-requires c κs = let a = c .before .before .before .before .before .before .before .before .before .before .before .before .before .before .before .before .before .before .before .before .args in let b : Lent = lent (a .points .now) (a .quads .now) (a .front-nodes .now) (a .front-lengths .now) (a .counts .now) in
-    let S = c .before .before .before .before .before .before .before .before .before .before .before .before .before .before .before .before .before .before .before .before .pre .0 in let R = c .before .before .before .before .before .before .before .before .before .before .before .before .before .before .before .before .before .before .before .before .pre .1 .1 in let e1 = c .before .before .before .before .before .before .before .before .before .before .before .before .count .ensures in let e2 = c .before .before .before .before .before .before .before .before .before .before .count2 .ensures in let e3 = c .before .before .before .before .before .before .before .before .count3 .ensures in
-    let fs = rw e3 at (c .before .before .before .before .before .before .front-at .ensures .0) in let fl = rw e3 at (c .before .before .before .before .before .before .front-at .ensures .1) in
+nodes-of-requires c κs =
+    let at-front-at : tie.After-front-at = search in
+    let at-count3 : tie.After-count3 = search in
+    let at-count2 : tie.After-count2 = search in
+    let at-count : tie.After-count = search in
+    let entry : tie.Start = search in
+    let a = entry .args in let b : Lent = lent (a .points .now) (a .quads .now) (a .front-nodes .now) (a .front-lengths .now) (a .counts .now) in
+    let S = entry .pre .0 in let R = entry .pre .1 .1 in let e1 = at-count .count .ensures in let e2 = at-count2 .count2 .ensures in let e3 = at-count3 .count3 .ensures in
+    let fs = rw e3 at (at-front-at .front-at .ensures .0) in let fl = rw e3 at (at-front-at .front-at .ensures .1) in
     let w = pairs-within (sizesOf b) (a .li) (R .front) in
     omega arith
 
 put-row-quads-requires : tie.Need-put-row-quads-requires
-put-row-quads-requires c κs = let a = c .before .before .before .before .before .before .before .before .before .before .before .before .before .before .before .before .before .before .before .before .before .args in let b : Lent = lent (a .points .now) (a .quads .now) (a .front-nodes .now) (a .front-lengths .now) (a .counts .now) in
-    let S = c .before .before .before .before .before .before .before .before .before .before .before .before .before .before .before .before .before .before .before .before .before .pre .0 in let R = c .before .before .before .before .before .before .before .before .before .before .before .before .before .before .before .before .before .before .before .before .before .pre .1 .1 in let e1 = c .before .before .before .before .before .before .before .before .before .before .before .before .before .count .ensures in let e2 = c .before .before .before .before .before .before .before .before .before .before .before .count2 .ensures in let e3 = c .before .before .before .before .before .before .before .before .before .count3 .ensures in
-    let fs = rw e3 at (c .before .before .before .before .before .before .before .front-at .ensures .0) in let fl = rw e3 at (c .before .before .before .before .before .before .before .front-at .ensures .1) in
+put-row-quads-requires c κs =
+    let at-front-at : tie.After-front-at = search in
+    let at-count3 : tie.After-count3 = search in
+    let at-count2 : tie.After-count2 = search in
+    let at-count : tie.After-count = search in
+    let entry : tie.Start = search in
+    let a = entry .args in let b : Lent = lent (a .points .now) (a .quads .now) (a .front-nodes .now) (a .front-lengths .now) (a .counts .now) in
+    let S = entry .pre .0 in let R = entry .pre .1 .1 in let e1 = at-count .count .ensures in let e2 = at-count2 .count2 .ensures in let e3 = at-count3 .count3 .ensures in
+    let fs = rw e3 at (at-front-at .front-at .ensures .0) in let fl = rw e3 at (at-front-at .front-at .ensures .1) in
     let w = pairs-within (sizesOf b) (a .li) (R .front) in
     let fits : pairs (sizesOf b) ≤ length (a .front-nodes .now) = omega arith in
     let e = part-is (sizesOf b) (a .front-nodes .now) (a .li) (R .front) fits _ _ _ fs fl (c .nodes-of .ensures) in
-    let lo : length (c .nodes-of .result .now) ≡ c .before .before .before .before .before .before .before .front-at .result .len = ap length e ∙ sym (cut-length (sizesOf b) (a .front-nodes .now) (a .li) (R .front) fits _ fl) in
+    let lo : length (c .nodes-of .result .now) ≡ at-front-at .front-at .result .len = ap length e ∙ sym (cut-length (sizesOf b) (a .front-nodes .now) (a .li) (R .front) fits _ fl) in
     omega arith
 
 put-numbers-requires : tie.Need-put-numbers-requires
-put-numbers-requires c κs = let a = c .before .before .before .before .before .before .before .before .before .before .before .before .before .before .before .before .before .before .before .before .before .before .before .before .before .args in let b : Lent = lent (a .points .now) (a .quads .now) (a .front-nodes .now) (a .front-lengths .now) (a .counts .now) in
-    let S = c .before .before .before .before .before .before .before .before .before .before .before .before .before .before .before .before .before .before .before .before .before .before .before .before .before .pre .0 in let R = c .before .before .before .before .before .before .before .before .before .before .before .before .before .before .before .before .before .before .before .before .before .before .before .before .before .pre .1 .1 in let e1 = c .before .before .before .before .before .before .before .before .before .before .before .before .before .before .before .before .before .count .ensures in let e2 = c .before .before .before .before .before .before .before .before .before .before .before .before .before .before .before .count2 .ensures in let e3 = c .before .before .before .before .before .before .before .before .before .before .before .before .before .count3 .ensures in
-    let fs = rw e3 at (c .before .before .before .before .before .before .before .before .before .before .before .front-at .ensures .0) in let fl = rw e3 at (c .before .before .before .before .before .before .before .before .before .before .before .front-at .ensures .1) in
+put-numbers-requires c κs =
+    let at-front-at : tie.After-front-at = search in
+    let at-count3 : tie.After-count3 = search in
+    let at-count2 : tie.After-count2 = search in
+    let at-count : tie.After-count = search in
+    let entry : tie.Start = search in
+    let a = entry .args in let b : Lent = lent (a .points .now) (a .quads .now) (a .front-nodes .now) (a .front-lengths .now) (a .counts .now) in
+    let S = entry .pre .0 in let R = entry .pre .1 .1 in let e1 = at-count .count .ensures in let e2 = at-count2 .count2 .ensures in let e3 = at-count3 .count3 .ensures in
+    let fs = rw e3 at (at-front-at .front-at .ensures .0) in let fl = rw e3 at (at-front-at .front-at .ensures .1) in
     let w = pairs-within (sizesOf b) (a .li) (R .front) in
     omega arith
 
 slice-read-row-quads : tie.Need-slice-read-row-quads
-slice-read-row-quads c = let S = c .before .before .before .before .before .before .before .before .before .before .before .before .before .before .before .before .before .before .before .before .before .before .before .before .before .before .before .before .before .pre .0 in omega arith
+slice-read-row-quads c =
+    let entry : tie.Start = search in
+    let S = entry .pre .0 in omega arith
 
 add-row-quads : tie.Need-add-row-quads
-add-row-quads c = let a = c .before .before .before .before .before .before .before .before .before .before .before .before .before .before .before .before .before .before .before .before .before .before .before .before .before .before .before .before .before .args in let b : Lent = lent (a .points .now) (a .quads .now) (a .front-nodes .now) (a .front-lengths .now) (a .counts .now) in
-    let S = c .before .before .before .before .before .before .before .before .before .before .before .before .before .before .before .before .before .before .before .before .before .before .before .before .before .before .before .before .before .pre .0 in let R = c .before .before .before .before .before .before .before .before .before .before .before .before .before .before .before .before .before .before .before .before .before .before .before .before .before .before .before .before .before .pre .1 .1 in let e1 = c .before .before .before .before .before .before .before .before .before .before .before .before .before .before .before .before .before .before .before .before .before .count .ensures in let e2 = c .before .before .before .before .before .before .before .before .before .before .before .before .before .before .before .before .before .before .before .count2 .ensures in let e3 = c .before .before .before .before .before .before .before .before .before .before .before .before .before .before .before .before .before .count3 .ensures in
-    let fs = rw e3 at (c .before .before .before .before .before .before .before .before .before .before .before .before .before .before .before .front-at .ensures .0) in let fl = rw e3 at (c .before .before .before .before .before .before .before .before .before .before .before .before .before .before .before .front-at .ensures .1) in
+add-row-quads c =
+    let at-front-at : tie.After-front-at = search in
+    let at-count3 : tie.After-count3 = search in
+    let at-count2 : tie.After-count2 = search in
+    let at-count : tie.After-count = search in
+    let entry : tie.Start = search in
+    let a = entry .args in let b : Lent = lent (a .points .now) (a .quads .now) (a .front-nodes .now) (a .front-lengths .now) (a .counts .now) in
+    let S = entry .pre .0 in let R = entry .pre .1 .1 in let e1 = at-count .count .ensures in let e2 = at-count2 .count2 .ensures in let e3 = at-count3 .count3 .ensures in
+    let fs = rw e3 at (at-front-at .front-at .ensures .0) in let fl = rw e3 at (at-front-at .front-at .ensures .1) in
     let w = pairs-within (sizesOf b) (a .li) (R .front) in
     omega arith
 
 slice-read-core-quads : tie.Need-slice-read-core-quads
-slice-read-core-quads c = let S = c .before .before .before .before .before .before .before .before .before .before .before .before .before .before .before .before .before .before .before .before .before .before .before .before .before .before .before .before .before .before .pre .0 in omega arith
+slice-read-core-quads c =
+    let entry : tie.Start = search in
+    let S = entry .pre .0 in omega arith
 
 slice-read-row-rounds : tie.Need-slice-read-row-rounds
-slice-read-row-rounds c = let S = c .before .before .before .before .before .before .before .before .before .before .before .before .before .before .before .before .before .before .before .before .before .before .before .before .before .before .before .before .before .before .before .pre .0 in omega arith
+slice-read-row-rounds c =
+    let entry : tie.Start = search in
+    let S = entry .pre .0 in omega arith
 
 add-row-rounds : tie.Need-add-row-rounds
-add-row-rounds c = let S = c .before .before .before .before .before .before .before .before .before .before .before .before .before .before .before .before .before .before .before .before .before .before .before .before .before .before .before .before .before .before .before .pre .0 in omega arith
+add-row-rounds c =
+    let entry : tie.Start = search in
+    let S = entry .pre .0 in omega arith
 
 slice-read-passes : tie.Need-slice-read-passes
-slice-read-passes c = let S = c .before .before .before .before .before .before .before .before .before .before .before .before .before .before .before .before .before .before .before .before .before .before .before .before .before .before .before .before .before .before .before .before .pre .0 in omega arith
+slice-read-passes c =
+    let entry : tie.Start = search in
+    let S = entry .pre .0 in omega arith
 
 add-all : tie.Need-add-all
-add-all c = let a = c .before .before .before .before .before .before .before .before .before .before .before .before .before .before .before .before .before .before .before .before .before .before .before .before .before .before .before .before .before .before .before .before .args in let b : Lent = lent (a .points .now) (a .quads .now) (a .front-nodes .now) (a .front-lengths .now) (a .counts .now) in
-    let S = c .before .before .before .before .before .before .before .before .before .before .before .before .before .before .before .before .before .before .before .before .before .before .before .before .before .before .before .before .before .before .before .before .pre .0 in let R = c .before .before .before .before .before .before .before .before .before .before .before .before .before .before .before .before .before .before .before .before .before .before .before .before .before .before .before .before .before .before .before .before .pre .1 .1 in let e1 = c .before .before .before .before .before .before .before .before .before .before .before .before .before .before .before .before .before .before .before .before .before .before .before .before .count .ensures in let e2 = c .before .before .before .before .before .before .before .before .before .before .before .before .before .before .before .before .before .before .before .before .before .before .count2 .ensures in let e3 = c .before .before .before .before .before .before .before .before .before .before .before .before .before .before .before .before .before .before .before .before .count3 .ensures in
-    let fs = rw e3 at (c .before .before .before .before .before .before .before .before .before .before .before .before .before .before .before .before .before .before .front-at .ensures .0) in let fl = rw e3 at (c .before .before .before .before .before .before .before .before .before .before .before .before .before .before .before .before .before .before .front-at .ensures .1) in
+add-all c =
+    let at-front-at : tie.After-front-at = search in
+    let at-count3 : tie.After-count3 = search in
+    let at-count2 : tie.After-count2 = search in
+    let at-count : tie.After-count = search in
+    let entry : tie.Start = search in
+    let a = entry .args in let b : Lent = lent (a .points .now) (a .quads .now) (a .front-nodes .now) (a .front-lengths .now) (a .counts .now) in
+    let S = entry .pre .0 in let R = entry .pre .1 .1 in let e1 = at-count .count .ensures in let e2 = at-count2 .count2 .ensures in let e3 = at-count3 .count3 .ensures in
+    let fs = rw e3 at (at-front-at .front-at .ensures .0) in let fl = rw e3 at (at-front-at .front-at .ensures .1) in
     let w = pairs-within (sizesOf b) (a .li) (R .front) in
     omega arith
 
 add-put-counts : tie.Need-add-put-counts
-add-put-counts c = let a = c .before .before .before .before .before .before .before .before .before .before .before .before .before .before .before .before .before .before .before .before .before .before .before .before .before .before .before .before .before .before .before .before .before .args in let b : Lent = lent (a .points .now) (a .quads .now) (a .front-nodes .now) (a .front-lengths .now) (a .counts .now) in
-    let S = c .before .before .before .before .before .before .before .before .before .before .before .before .before .before .before .before .before .before .before .before .before .before .before .before .before .before .before .before .before .before .before .before .before .pre .0 in let R = c .before .before .before .before .before .before .before .before .before .before .before .before .before .before .before .before .before .before .before .before .before .before .before .before .before .before .before .before .before .before .before .before .before .pre .1 .1 in let e1 = c .before .before .before .before .before .before .before .before .before .before .before .before .before .before .before .before .before .before .before .before .before .before .before .before .before .count .ensures in let e2 = c .before .before .before .before .before .before .before .before .before .before .before .before .before .before .before .before .before .before .before .before .before .before .before .count2 .ensures in let e3 = c .before .before .before .before .before .before .before .before .before .before .before .before .before .before .before .before .before .before .before .before .before .count3 .ensures in
-    let fs = rw e3 at (c .before .before .before .before .before .before .before .before .before .before .before .before .before .before .before .before .before .before .before .front-at .ensures .0) in let fl = rw e3 at (c .before .before .before .before .before .before .before .before .before .before .before .before .before .before .before .before .before .before .before .front-at .ensures .1) in
+add-put-counts c =
+    let at-front-at : tie.After-front-at = search in
+    let at-count3 : tie.After-count3 = search in
+    let at-count2 : tie.After-count2 = search in
+    let at-count : tie.After-count = search in
+    let entry : tie.Start = search in
+    let a = entry .args in let b : Lent = lent (a .points .now) (a .quads .now) (a .front-nodes .now) (a .front-lengths .now) (a .counts .now) in
+    let S = entry .pre .0 in let R = entry .pre .1 .1 in let e1 = at-count .count .ensures in let e2 = at-count2 .count2 .ensures in let e3 = at-count3 .count3 .ensures in
+    let fs = rw e3 at (at-front-at .front-at .ensures .0) in let fl = rw e3 at (at-front-at .front-at .ensures .1) in
     let w = pairs-within (sizesOf b) (a .li) (R .front) in
     omega arith
 
 put-counts-requires : tie.Need-put-counts-requires
-put-counts-requires c κs = c .before .before .before .before .before .before .before .before .before .before .before .before .before .before .before .before .before .before .before .before .before .before .before .before .before .before .before .before .before .before .before .before .before .pre .0 .countsLong
+put-counts-requires c κs =
+    let entry : tie.Start = search in
+    entry .pre .0 .countsLong
 
 same-length : tie.Need-same-length
 same-length c = search needs
@@ -126,13 +180,23 @@ same-length-4 : tie.Need-same-length-4
 same-length-4 c = search needs
 
 returns : tie.Need-returns
-returns c = let a = c .before .before .before .before .before .before .before .before .before .before .before .before .before .before .before .before .before .before .before .before .before .before .before .before .before .before .before .before .before .before .before .before .before .before .before .before .args in let b : Lent = lent (a .points .now) (a .quads .now) (a .front-nodes .now) (a .front-lengths .now) (a .counts .now) in
-    let S = c .before .before .before .before .before .before .before .before .before .before .before .before .before .before .before .before .before .before .before .before .before .before .before .before .before .before .before .before .before .before .before .before .before .before .before .before .pre .0 in let R = c .before .before .before .before .before .before .before .before .before .before .before .before .before .before .before .before .before .before .before .before .before .before .before .before .before .before .before .before .before .before .before .before .before .before .before .before .pre .1 .1 in let e1 = c .before .before .before .before .before .before .before .before .before .before .before .before .before .before .before .before .before .before .before .before .before .before .before .before .before .before .before .before .count .ensures in let e2 = c .before .before .before .before .before .before .before .before .before .before .before .before .before .before .before .before .before .before .before .before .before .before .before .before .before .before .count2 .ensures in let e3 = c .before .before .before .before .before .before .before .before .before .before .before .before .before .before .before .before .before .before .before .before .before .before .before .before .count3 .ensures in
-    let fs = rw e3 at (c .before .before .before .before .before .before .before .before .before .before .before .before .before .before .before .before .before .before .before .before .before .before .front-at .ensures .0) in let fl = rw e3 at (c .before .before .before .before .before .before .before .before .before .before .before .before .before .before .before .before .before .before .before .before .before .before .front-at .ensures .1) in
+returns c =
+    let at-put-numbers : tie.After-put-numbers = search in
+    let at-put-row-quads : tie.After-put-row-quads = search in
+    let at-nodes-of : tie.After-nodes-of = search in
+    let at-copy-points : tie.After-copy-points = search in
+    let at-front-at : tie.After-front-at = search in
+    let at-count3 : tie.After-count3 = search in
+    let at-count2 : tie.After-count2 = search in
+    let at-count : tie.After-count = search in
+    let entry = at-count .before .before .before .before .before .before .before .before in
+    let a = entry .args in let b : Lent = lent (a .points .now) (a .quads .now) (a .front-nodes .now) (a .front-lengths .now) (a .counts .now) in
+    let S = entry .pre .0 in let R = entry .pre .1 .1 in let e1 = at-count .count .ensures in let e2 = at-count2 .count2 .ensures in let e3 = at-count3 .count3 .ensures in
+    let fs = rw e3 at (at-front-at .front-at .ensures .0) in let fl = rw e3 at (at-front-at .front-at .ensures .1) in
     let w = pairs-within (sizesOf b) (a .li) (R .front) in
     let fits : pairs (sizesOf b) ≤ length (a .front-nodes .now) = omega arith in
-    let e = part-is (sizesOf b) (a .front-nodes .now) (a .li) (R .front) fits _ _ _ fs fl (c .before .before .before .before .before .before .before .before .before .before .before .before .before .before .before .nodes-of .ensures) in
-    laid-is b S (c .before .before .before .before .before .before .before .before .before .before .before .before .before .before .before .before .before .before .before .before .before .before .before .before .before .before .before .before .before .before .before .before .before .before .before .before .pre .1 .0) (a .li) _ (a .row .now) R fl (rw e1 at (c .before .before .before .before .before .before .before .before .before .before .before .before .before .before .before .before .before .before .before .before .copy-points .ensures)) e (rw (e1, e2) at (c .before .before .before .before .before .before .before .before .before .before .before .before .before .before .put-row-quads .ensures)) (rw (fs, e1) at (c .before .before .before .before .before .before .before .before .before .before .put-numbers .ensures))
+    let e = part-is (sizesOf b) (a .front-nodes .now) (a .li) (R .front) fits _ _ _ fs fl (at-nodes-of .nodes-of .ensures) in
+    laid-is b S (entry .pre .1 .0) (a .li) _ (a .row .now) R fl (rw e1 at (at-copy-points .copy-points .ensures)) e (rw (e1, e2) at (at-put-row-quads .put-row-quads .ensures)) (rw (fs, e1) at (at-put-numbers .put-numbers .ensures))
     (rw (← e1, ← e2, ← e3) (c .before .before .put-counts .ensures))
 
 pub lay-row-spec : {M : Type 1} → statement M

@@ -41,22 +41,33 @@ slice-reshare-prefix-row-number : tie.Need-slice-reshare-prefix-row-number
 slice-reshare-prefix-row-number c = search needs
 
 slice-aggregate-row-number : tie.Need-slice-aggregate-row-number
-slice-aggregate-row-number c = let S = c .before .before .before .before .before .before .before .before .before .before .before .before .before .before .before .pre .0 in let e = c .before .before .before .before .before .count .ensures in sym (length-take-le _ (c .before .before .before .before .before .before .before .before .before .before .before .before .before .before .before .args .points .now) (omega arith))
+slice-aggregate-row-number c =
+    let at-count : tie.After-count = search in
+    let entry : tie.Start = search in
+    let S = entry .pre .0 in let e = at-count .count .ensures in sym (length-take-le _ (entry .args .points .now) (omega arith))
 
 slice-reshare-prefix-row-number-2 : tie.Need-slice-reshare-prefix-row-number-2
 slice-reshare-prefix-row-number-2 c = search needs
 
 slice-aggregate-row-number-2 : tie.Need-slice-aggregate-row-number-2
-slice-aggregate-row-number-2 c = let S = c .before .before .before .before .before .before .before .before .before .before .before .before .before .before .before .before .before .pre .0 in let e = c .before .before .before .count3 .ensures in sym (length-take-le _ (c .before .before .before .before .before .before .before .before .before .before .before .before .before .before .before .before .before .args .front-lengths .now) (omega arith))
+slice-aggregate-row-number-2 c =
+    let at-count3 : tie.After-count3 = search in
+    let entry : tie.Start = search in
+    let S = entry .pre .0 in let e = at-count3 .count3 .ensures in sym (length-take-le _ (entry .args .front-lengths .now) (omega arith))
 
 row-number-requires : tie.Need-row-number-requires
-row-number-requires c κs = let a = c .before .before .before .before .before .before .before .before .before .before .before .before .before .before .before .before .before .before .args in let b : Lent = lent (a .points .now) (a .quads .now) (a .front-nodes .now) (a .front-lengths .now) (a .counts .now) in
-    let S = c .before .before .before .before .before .before .before .before .before .before .before .before .before .before .before .before .before .before .pre .0 in let e1 = c .before .before .before .before .before .before .before .before .count .ensures in let e2 = c .before .before .before .before .before .before .count2 .ensures in let e3 = c .before .before .before .before .count3 .ensures in
-    let hl : a .li < length (sizesOf b) = rw (sizes-long b (sound-counted b S)) (c .before .before .before .before .before .before .before .before .before .before .before .before .before .before .before .before .before .before .pre .1 .1 .0 .0) in
-    let k : length (take (c .before .before .before .before .count3 .result) (a .front-lengths .now)) ≤ 16 = simp length-take (omega arith) in
-    let q : c .before .before .before .before .before .before .count2 .result ≤ 4096 = omega arith in
-    let r : getD (take (c .before .before .before .before .count3 .result) (a .front-lengths .now)) (a .li) 0 * 2 ≤ length (a .row .now) = rw (e3, getD-take (countAt b 2) (a .front-lengths .now) (a .li) 0 (c .before .before .before .before .before .before .before .before .before .before .before .before .before .before .before .before .before .before .pre .1 .1 .0 .0)) (c .before .before .before .before .before .before .before .before .before .before .before .before .before .before .before .before .before .before .pre .1 .1 .1) in
-    ((rw e3 hl, k, q), ((c .before .before .before .before .before .before .before .before .before .before .before .before .before .before .before .before .before .before .pre .1 .1 .0 .1, rw e3 (fits b (sound-counted b S)), r), rw (e3, e1) (read-below b S)))
+row-number-requires c κs =
+    let at-count3 : tie.After-count3 = search in
+    let at-count2 : tie.After-count2 = search in
+    let at-count : tie.After-count = search in
+    let entry : tie.Start = search in
+    let a = entry .args in let b : Lent = lent (a .points .now) (a .quads .now) (a .front-nodes .now) (a .front-lengths .now) (a .counts .now) in
+    let S = entry .pre .0 in let e1 = at-count .count .ensures in let e2 = at-count2 .count2 .ensures in let e3 = at-count3 .count3 .ensures in
+    let hl : a .li < length (sizesOf b) = rw (sizes-long b (sound-counted b S)) (entry .pre .1 .1 .0 .0) in
+    let k : length (take (at-count3 .count3 .result) (a .front-lengths .now)) ≤ 16 = simp length-take (omega arith) in
+    let q : at-count2 .count2 .result ≤ 4096 = omega arith in
+    let r : getD (take (at-count3 .count3 .result) (a .front-lengths .now)) (a .li) 0 * 2 ≤ length (a .row .now) = rw (e3, getD-take (countAt b 2) (a .front-lengths .now) (a .li) 0 (entry .pre .1 .1 .0 .0)) (entry .pre .1 .1 .1) in
+    ((rw e3 hl, k, q), ((entry .pre .1 .1 .0 .1, rw e3 (fits b (sound-counted b S)), r), rw (e3, e1) (read-below b S)))
 
 same-length : tie.Need-same-length
 same-length c = search needs
@@ -71,11 +82,17 @@ same-length-4 : tie.Need-same-length-4
 same-length-4 c = search needs
 
 returns : tie.Need-returns
-returns c = let a = c .before .before .before .before .before .before .before .before .before .before .before .before .before .before .before .before .before .before .before .before .before .before .args in let b : Lent = lent (a .points .now) (a .quads .now) (a .front-nodes .now) (a .front-lengths .now) (a .counts .now) in
-    let S = c .before .before .before .before .before .before .before .before .before .before .before .before .before .before .before .before .before .before .before .before .before .before .pre .0 in let e1 = c .before .before .before .before .before .before .before .before .before .before .before .before .count .ensures in let e2 = c .before .before .before .before .before .before .before .before .before .before .count2 .ensures in let e3 = c .before .before .before .before .before .before .before .before .count3 .ensures in
-    let hl : a .li < length (sizesOf b) = rw (sizes-long b (sound-counted b S)) (c .before .before .before .before .before .before .before .before .before .before .before .before .before .before .before .before .before .before .before .before .before .before .pre .1 .1 .0 .0) in
+returns c =
+    let at-row-number : tie.After-row-number = search in
+    let at-count3 : tie.After-count3 = search in
+    let at-count2 : tie.After-count2 = search in
+    let at-count : tie.After-count = search in
+    let entry = at-count .before .before .before .before .before .before .before .before .before .before in
+    let a = entry .args in let b : Lent = lent (a .points .now) (a .quads .now) (a .front-nodes .now) (a .front-lengths .now) (a .counts .now) in
+    let S = entry .pre .0 in let e1 = at-count .count .ensures in let e2 = at-count2 .count2 .ensures in let e3 = at-count3 .count3 .ensures in
+    let hl : a .li < length (sizesOf b) = rw (sizes-long b (sound-counted b S)) (entry .pre .1 .1 .0 .0) in
     let j : Job = job (a .coords .now) (a .loop-lengths .now) (a .h) (a .options) in
-    let rn = rw (e1, e2, e3) at (c .before .before .before .row-number .ensures .0) in
+    let rn = rw (e1, e2, e3) at (at-row-number .row-number .ensures .0) in
     refuses b S (a .li) hl j _ rn (c .if1 .taken)
 
 mul-wide : tie.Need-mul-wide
@@ -88,35 +105,57 @@ wide-requires : tie.Need-wide-requires
 wide-requires c κs = search needs
 
 mul-m : tie.Need-mul-m
-mul-m c = let a = c .before .before .before .before .before .before .before .before .before .before .before .before .before .before .before .before .before .before .before .before .before .before .before .before .args in let b : Lent = lent (a .points .now) (a .quads .now) (a .front-nodes .now) (a .front-lengths .now) (a .counts .now) in
-    let S = c .before .before .before .before .before .before .before .before .before .before .before .before .before .before .before .before .before .before .before .before .before .before .before .before .pre .0 in let e1 = c .before .before .before .before .before .before .before .before .before .before .before .before .before .before .count .ensures in let e2 = c .before .before .before .before .before .before .before .before .before .before .before .before .count2 .ensures in let e3 = c .before .before .before .before .before .before .before .before .before .before .count3 .ensures in
-    let hl : a .li < length (sizesOf b) = rw (sizes-long b (sound-counted b S)) (c .before .before .before .before .before .before .before .before .before .before .before .before .before .before .before .before .before .before .before .before .before .before .before .before .pre .1 .1 .0 .0) in
+mul-m c =
+    let at-count3 : tie.After-count3 = search in
+    let at-count2 : tie.After-count2 = search in
+    let at-count : tie.After-count = search in
+    let entry : tie.Start = search in
+    let a = entry .args in let b : Lent = lent (a .points .now) (a .quads .now) (a .front-nodes .now) (a .front-lengths .now) (a .counts .now) in
+    let S = entry .pre .0 in let e1 = at-count .count .ensures in let e2 = at-count2 .count2 .ensures in let e3 = at-count3 .count3 .ensures in
+    let hl : a .li < length (sizesOf b) = rw (sizes-long b (sound-counted b S)) (entry .pre .1 .1 .0 .0) in
     let w = pairs-within (sizesOf b) (a .li) hl in
-    let n = c .wide .ensures ∙ sym (getD-take (countAt b 2) (a .front-lengths .now) (a .li) 0 (c .before .before .before .before .before .before .before .before .before .before .before .before .before .before .before .before .before .before .before .before .before .before .before .before .pre .1 .1 .0 .0)) in
+    let n = c .wide .ensures ∙ sym (getD-take (countAt b 2) (a .front-lengths .now) (a .li) 0 (entry .pre .1 .1 .0 .0)) in
     omega arith
 
 clear-behind-requires : tie.Need-clear-behind-requires
 clear-behind-requires c κs = search needs
 
 slice-reshare-prefix-lay-row : tie.Need-slice-reshare-prefix-lay-row
-slice-reshare-prefix-lay-row c = let p = c .before .before .before .before .before .before .before .before .before .before .before .before .before .before .before .before .before .before .before .before .before .before .before .before .before .before .before .before .before .before .before .before .before .before .before .before .before .before .before .before .before .before .before .pre .1 .1 .1 in let we = c .before .before .before .before .before .before .before .before .before .before .before .before .before .before .before .before .before .before .before .wide .ensures in let long = c .before .before .before .before .before .before .before .before .before .before .before .before .before .before .before .before .before .before .before .before .before .before .before .before .row-number .kept .1 .1 .1 .1 .1 .1 .1 .1 .1 .0 in
+slice-reshare-prefix-lay-row c =
+    let at-wide : tie.After-wide = search in
+    let at-row-number : tie.After-row-number = search in
+    let entry = at-row-number .before .before .before .before .before .before .before .before .before .before .before .before .before .before .before .before .before .before .before in
+    let p = entry .pre .1 .1 .1 in let we = at-wide .wide .ensures in let long = at-row-number .row-number .kept .1 .1 .1 .1 .1 .1 .1 .1 .1 .0 in
     omega arith
 
 slice-aggregate-lay-row : tie.Need-slice-aggregate-lay-row
-slice-aggregate-lay-row c = let p = c .before .before .before .before .before .before .before .before .before .before .before .before .before .before .before .before .before .before .before .before .before .before .before .before .before .before .before .before .before .before .before .before .before .before .before .before .before .before .before .before .before .before .before .before .pre .1 .1 .1 in let we = c .before .before .before .before .before .before .before .before .before .before .before .before .before .before .before .before .before .before .before .before .wide .ensures in let long = c .before .before .before .before .before .before .before .before .before .before .before .before .before .before .before .before .before .before .before .before .before .before .before .before .before .row-number .kept .1 .1 .1 .1 .1 .1 .1 .1 .1 .0 in
-    sym (length-take-le _ (c .before .before .before .before .before .before .before .before .before .before .before .before .before .before .before .before .before .before .before .before .before .before .before .before .before .row-number .last .1 .1 .1 .1 .1 .1 .1 .1 .1 .0) (omega arith))
+slice-aggregate-lay-row c =
+    let at-wide : tie.After-wide = search in
+    let at-row-number : tie.After-row-number = search in
+    let entry = at-row-number .before .before .before .before .before .before .before .before .before .before .before .before .before .before .before .before .before .before .before in
+    let p = entry .pre .1 .1 .1 in let we = at-wide .wide .ensures in let long = at-row-number .row-number .kept .1 .1 .1 .1 .1 .1 .1 .1 .1 .0 in
+    sym (length-take-le _ (at-row-number .row-number .last .1 .1 .1 .1 .1 .1 .1 .1 .1 .0) (omega arith))
 
 lay-row-requires : tie.Need-lay-row-requires
-lay-row-requires c κs = let a = c .before .before .before .before .before .before .before .before .before .before .before .before .before .before .before .before .before .before .before .before .before .before .before .before .before .before .before .before .before .before .before .before .before .before .before .before .before .before .before .before .before .before .before .before .args in let b : Lent = lent (a .points .now) (a .quads .now) (a .front-nodes .now) (a .front-lengths .now) (a .counts .now) in
-    let S = c .before .before .before .before .before .before .before .before .before .before .before .before .before .before .before .before .before .before .before .before .before .before .before .before .before .before .before .before .before .before .before .before .before .before .before .before .before .before .before .before .before .before .before .before .pre .0 in let e1 = c .before .before .before .before .before .before .before .before .before .before .before .before .before .before .before .before .before .before .before .before .before .before .before .before .before .before .before .before .before .before .before .before .before .before .count .ensures in let e2 = c .before .before .before .before .before .before .before .before .before .before .before .before .before .before .before .before .before .before .before .before .before .before .before .before .before .before .before .before .before .before .before .before .count2 .ensures in let e3 = c .before .before .before .before .before .before .before .before .before .before .before .before .before .before .before .before .before .before .before .before .before .before .before .before .before .before .before .before .before .before .count3 .ensures in
-    let hl : a .li < length (sizesOf b) = rw (sizes-long b (sound-counted b S)) (c .before .before .before .before .before .before .before .before .before .before .before .before .before .before .before .before .before .before .before .before .before .before .before .before .before .before .before .before .before .before .before .before .before .before .before .before .before .before .before .before .before .before .before .before .pre .1 .1 .0 .0) in
+lay-row-requires c κs =
+    let at-clear-behind : tie.After-clear-behind = search in
+    let at-wide : tie.After-wide = search in
+    let at-if1 : tie.Else1 = search in
+    let at-row-number : tie.After-row-number = search in
+    let at-count3 : tie.After-count3 = search in
+    let at-count2 : tie.After-count2 = search in
+    let at-count : tie.After-count = search in
+    let entry = at-count .before .before .before .before .before .before .before .before .before .before in
+    let a = entry .args in let b : Lent = lent (a .points .now) (a .quads .now) (a .front-nodes .now) (a .front-lengths .now) (a .counts .now) in
+    let S = entry .pre .0 in let e1 = at-count .count .ensures in let e2 = at-count2 .count2 .ensures in let e3 = at-count3 .count3 .ensures in
+    let hl : a .li < length (sizesOf b) = rw (sizes-long b (sound-counted b S)) (entry .pre .1 .1 .0 .0) in
     let j : Job = job (a .coords .now) (a .loop-lengths .now) (a .h) (a .options) in
-    let rn = rw (e1, e2, e3) at (c .before .before .before .before .before .before .before .before .before .before .before .before .before .before .before .before .before .before .before .before .before .before .before .before .before .row-number .ensures .0) in
-    let wn = c .before .before .before .before .before .before .before .before .before .before .before .before .before .before .before .before .before .before .before .before .wide .ensures ∙ sym (getD-take (countAt b 2) (a .front-lengths .now) (a .li) 0 (c .before .before .before .before .before .before .before .before .before .before .before .before .before .before .before .before .before .before .before .before .before .before .before .before .before .before .before .before .before .before .before .before .before .before .before .before .before .before .before .before .before .before .before .before .pre .1 .1 .0 .0)) in
-    let p = c .before .before .before .before .before .before .before .before .before .before .before .before .before .before .before .before .before .before .before .before .before .before .before .before .before .before .before .before .before .before .before .before .before .before .before .before .before .before .before .before .before .before .before .before .pre .1 .1 .1 in let we = c .before .before .before .before .before .before .before .before .before .before .before .before .before .before .before .before .before .before .before .before .wide .ensures in let long = c .before .before .before .before .before .before .before .before .before .before .before .before .before .before .before .before .before .before .before .before .before .before .before .before .before .row-number .kept .1 .1 .1 .1 .1 .1 .1 .1 .1 .0 in
-    let m = length-take-le (c .before .before .before .before .before .before .before .before .before .before .before .before .before .before .before .before .before .before .before .before .wide .result * 2) (c .before .before .before .before .before .before .before .before .before .before .before .before .before .before .before .before .before .before .before .before .before .before .before .before .before .row-number .last .1 .1 .1 .1 .1 .1 .1 .1 .1 .0) (omega arith) ∙ ap (λ k. k * 2) wn in
-    let e = c .before .before .before .before .before .before .before .before .before .before .before .before .before .before .clear-behind .ensures in
-    (still-sound b S _ e, (now-clean b S _ e, same-room b S _ e (a .li) _ (has-room b S (a .li) hl j _ (sym rn ∙ c .before .before .before .before .before .before .before .before .before .before .before .before .before .before .before .before .before .before .before .before .before .before .if1 .left) m)))
+    let rn = rw (e1, e2, e3) at (at-row-number .row-number .ensures .0) in
+    let wn = at-wide .wide .ensures ∙ sym (getD-take (countAt b 2) (a .front-lengths .now) (a .li) 0 (entry .pre .1 .1 .0 .0)) in
+    let p = entry .pre .1 .1 .1 in let we = at-wide .wide .ensures in let long = at-row-number .row-number .kept .1 .1 .1 .1 .1 .1 .1 .1 .1 .0 in
+    let m = length-take-le (at-wide .wide .result * 2) (at-row-number .row-number .last .1 .1 .1 .1 .1 .1 .1 .1 .1 .0) (omega arith) ∙ ap (λ k. k * 2) wn in
+    let e = at-clear-behind .clear-behind .ensures in
+    (still-sound b S _ e, (now-clean b S _ e, same-room b S _ e (a .li) _ (has-room b S (a .li) hl j _ (sym rn ∙ at-if1 .if1 .left) m)))
 
 same-length-5 : tie.Need-same-length-5
 same-length-5 c = search needs
@@ -137,14 +176,24 @@ same-length-10 : tie.Need-same-length-10
 same-length-10 c = search needs
 
 returns-2 : tie.Need-returns-2
-returns-2 c = let a = c .before .before .before .before .before .before .before .before .before .before .before .before .before .before .before .before .before .before .before .before .before .before .before .before .before .before .before .before .before .before .before .before .before .before .before .before .before .before .before .before .before .before .before .before .before .before .before .before .before .before .before .before .before .args in let b : Lent = lent (a .points .now) (a .quads .now) (a .front-nodes .now) (a .front-lengths .now) (a .counts .now) in
-    let S = c .before .before .before .before .before .before .before .before .before .before .before .before .before .before .before .before .before .before .before .before .before .before .before .before .before .before .before .before .before .before .before .before .before .before .before .before .before .before .before .before .before .before .before .before .before .before .before .before .before .before .before .before .before .pre .0 in let e1 = c .before .before .before .before .before .before .before .before .before .before .before .before .before .before .before .before .before .before .before .before .before .before .before .before .before .before .before .before .before .before .before .before .before .before .before .before .before .before .before .before .before .before .before .count .ensures in let e2 = c .before .before .before .before .before .before .before .before .before .before .before .before .before .before .before .before .before .before .before .before .before .before .before .before .before .before .before .before .before .before .before .before .before .before .before .before .before .before .before .before .before .count2 .ensures in let e3 = c .before .before .before .before .before .before .before .before .before .before .before .before .before .before .before .before .before .before .before .before .before .before .before .before .before .before .before .before .before .before .before .before .before .before .before .before .before .before .before .count3 .ensures in
-    let hl : a .li < length (sizesOf b) = rw (sizes-long b (sound-counted b S)) (c .before .before .before .before .before .before .before .before .before .before .before .before .before .before .before .before .before .before .before .before .before .before .before .before .before .before .before .before .before .before .before .before .before .before .before .before .before .before .before .before .before .before .before .before .before .before .before .before .before .before .before .before .before .pre .1 .1 .0 .0) in
+returns-2 c =
+    let at-lay-row : tie.After-lay-row = search in
+    let at-clear-behind : tie.After-clear-behind = search in
+    let at-wide : tie.After-wide = search in
+    let at-if1 : tie.Else1 = search in
+    let at-row-number : tie.After-row-number = search in
+    let at-count3 : tie.After-count3 = search in
+    let at-count2 : tie.After-count2 = search in
+    let at-count : tie.After-count = search in
+    let entry = at-count .before .before .before .before .before .before .before .before .before .before in
+    let a = entry .args in let b : Lent = lent (a .points .now) (a .quads .now) (a .front-nodes .now) (a .front-lengths .now) (a .counts .now) in
+    let S = entry .pre .0 in let e1 = at-count .count .ensures in let e2 = at-count2 .count2 .ensures in let e3 = at-count3 .count3 .ensures in
+    let hl : a .li < length (sizesOf b) = rw (sizes-long b (sound-counted b S)) (entry .pre .1 .1 .0 .0) in
     let j : Job = job (a .coords .now) (a .loop-lengths .now) (a .h) (a .options) in
-    let rn = rw (e1, e2, e3) at (c .before .before .before .before .before .before .before .before .before .before .before .before .before .before .before .before .before .before .before .before .before .before .before .before .before .before .before .before .before .before .before .before .before .before .row-number .ensures .0) in
-    let wn = c .before .before .before .before .before .before .before .before .before .before .before .before .before .before .before .before .before .before .before .before .before .before .before .before .before .before .before .before .before .wide .ensures ∙ sym (getD-take (countAt b 2) (a .front-lengths .now) (a .li) 0 (c .before .before .before .before .before .before .before .before .before .before .before .before .before .before .before .before .before .before .before .before .before .before .before .before .before .before .before .before .before .before .before .before .before .before .before .before .before .before .before .before .before .before .before .before .before .before .before .before .before .before .before .before .before .pre .1 .1 .0 .0)) in
-    let w = rw (e1, e3) at (c .before .before .before .before .before .before .before .before .before .before .before .before .before .before .before .before .before .before .before .before .before .before .before .before .before .before .before .before .before .before .before .before .before .before .row-number .ensures .1 (c .before .before .before .before .before .before .before .before .before .before .before .before .before .before .before .before .before .before .before .before .before .before .before .before .before .before .before .before .before .before .before .if1 .left)) in
-    lays b S (a .li) hl j _ _ _ rn (c .before .before .before .before .before .before .before .before .before .before .before .before .before .before .before .before .before .before .before .before .before .before .before .before .before .before .before .before .before .before .before .if1 .left) (row-read b S (a .li) hl j _ _ wn w) (rw (same-state b S _ (c .before .before .before .before .before .before .before .before .before .before .before .before .before .before .before .before .before .before .before .before .before .before .before .clear-behind .ensures)) at (c .before .before .before .before .before .before .before .before .lay-row .ensures))
+    let rn = rw (e1, e2, e3) at (at-row-number .row-number .ensures .0) in
+    let wn = at-wide .wide .ensures ∙ sym (getD-take (countAt b 2) (a .front-lengths .now) (a .li) 0 (entry .pre .1 .1 .0 .0)) in
+    let w = rw (e1, e3) at (at-row-number .row-number .ensures .1 (at-if1 .if1 .left)) in
+    lays b S (a .li) hl j _ _ _ rn (at-if1 .if1 .left) (row-read b S (a .li) hl j _ _ wn w) (rw (same-state b S _ (at-clear-behind .clear-behind .ensures)) at (at-lay-row .lay-row .ensures))
 
 pub row-in-spec : {M : Type 1} → statement M
 row-in-spec =

@@ -22,7 +22,9 @@ slice-aggregate-row-in : tie.Need-slice-aggregate-row-in
 slice-aggregate-row-in c = search needs
 
 row-in-requires : tie.Need-row-in-requires
-row-in-requires c κs = let p = c .before .before .before .before .before .before .before .before .before .before .before .before .before .before .before .pre in (p .0, (p .1 .0, (p .1 .1, omega arith)))
+row-in-requires c κs =
+    let entry : tie.Start = search in
+    let p = entry .pre in (p .0, (p .1 .0, (p .1 .1, omega arith)))
 
 same-length : tie.Need-same-length
 same-length c = search needs
@@ -46,8 +48,10 @@ slice-aggregate-row-in-2 : tie.Need-slice-aggregate-row-in-2
 slice-aggregate-row-in-2 c = search needs
 
 row-in-requires-2 : tie.Need-row-in-requires-2
-row-in-requires-2 c κs = let a = c .before .before .before .before .before .before .before .before .before .before .before .before .before .before .before .args in let b : Lent = lent (a .points .now) (a .quads .now) (a .front-nodes .now) (a .front-lengths .now) (a .counts .now) in
-    let p = c .before .before .before .before .before .before .before .before .before .before .before .before .before .before .before .pre in let S = p .0 in
+row-in-requires-2 c κs =
+    let entry : tie.Start = search in
+    let a = entry .args in let b : Lent = lent (a .points .now) (a .quads .now) (a .front-nodes .now) (a .front-lengths .now) (a .counts .now) in
+    let p = entry .pre in let S = p .0 in
     let hl : a .li < length (sizesOf b) = rw (sizes-long b (sound-counted b S)) (p .1 .1 .0) in
     let w = pairs-within (sizesOf b) (a .li) hl in
     let n = getD-take (countAt b 2) (a .front-lengths .now) (a .li) 0 (p .1 .1 .0) in

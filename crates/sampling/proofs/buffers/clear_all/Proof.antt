@@ -34,7 +34,12 @@ same-length-5 : tie.Need-same-length-5
 same-length-5 c = search needs
 
 returns : tie.Need-returns
-returns c = rw (c .before .before .before .before .before .before .before .before .before .before .before .before .before .before .before .before .before .before .clear-floats .ensures, c .before .before .before .before .before .before .before .before .before .before .before .before .before .before .clear-nodes .ensures, c .before .before .before .before .before .before .before .before .before .before .clear-nodes2 .ensures, c .before .before .before .before .before .before .clear-nodes3 .ensures, c .before .before .clear-counts .ensures)
+returns c =
+    let at-clear-nodes3 : tie.After-clear-nodes3 = search in
+    let at-clear-nodes2 : tie.After-clear-nodes2 = search in
+    let at-clear-nodes : tie.After-clear-nodes = search in
+    let at-clear-floats : tie.After-clear-floats = search in
+    rw (at-clear-floats .clear-floats .ensures, at-clear-nodes .clear-nodes .ensures, at-clear-nodes2 .clear-nodes2 .ensures, at-clear-nodes3 .clear-nodes3 .ensures, c .before .before .clear-counts .ensures)
 
 pub clear-all-spec : {M : Type 1} → statement M
 clear-all-spec =

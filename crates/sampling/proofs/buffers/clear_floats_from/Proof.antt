@@ -23,7 +23,9 @@ same-length : tie.Need-same-length
 same-length c = search needs
 
 returns : tie.Need-returns
-returns c = fill-from _ (c .before .before .before .before .before .args .s .now) _ (c .before .before .before .before .before .args .from) (c .before .before .before .before .before .pre) (c .before .before .clear-floats .ensures)
+returns c =
+    let entry : tie.Start = search in
+    fill-from _ (entry .args .s .now) _ (entry .args .from) (entry .pre) (c .before .before .clear-floats .ensures)
 
 pub clear-floats-from-spec : {M : Type 1} → statement M
 clear-floats-from-spec =

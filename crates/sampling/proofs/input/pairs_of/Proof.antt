@@ -20,7 +20,9 @@ loop-holds : tie.Need-loop-holds Inv-loop μ-loop
 loop-holds c = (omega arith, zero-add _, omega arith)
 
 mul-wide : tie.Need-mul-wide Inv-loop μ-loop
-mul-wide c = scaled-fits (c .before .loop .i) (length (c .before .before .before .args .loop-lengths .now)) 2 (omega arith) (c .before .before .before .good .0 .1)
+mul-wide c =
+    let entry : tie.Start Inv-loop μ-loop = search in
+    scaled-fits (c .before .loop .i) (length (entry .args .loop-lengths .now)) 2 (omega arith) (entry .good .0 .1)
 
 shared-slice-read-wide : tie.Need-shared-slice-read-wide Inv-loop μ-loop
 shared-slice-read-wide c = omega arith
@@ -38,7 +40,9 @@ loop-less : tie.Need-loop-less Inv-loop μ-loop
 loop-less c = omega arith
 
 loop-again : tie.Need-loop-again Inv-loop μ-loop
-loop-again c = (omega arith, pairs-step _ _ _ _ (c .before .before .before .loop .inv .1) (c .wide .ensures .0) (c .before .before .loop-test .taken), omega arith)
+loop-again c =
+    let at-loop : tie.At-loop Inv-loop μ-loop = search in
+    (omega arith, pairs-step _ _ _ _ (at-loop .loop .inv .1) (c .wide .ensures .0) (c .before .before .loop-test .taken), omega arith)
 
 returns : tie.Need-returns Inv-loop μ-loop
 returns c = sym (add-zero _) ∙ pairs-end _ _ _ (c .before .loop .inv .1) (c .loop-test .left)

@@ -20,7 +20,9 @@ loop-holds : tie.Need-loop-holds Inv-loop μ-loop
 loop-holds c = (omega arith, refl)
 
 mul-wrong-number : tie.Need-mul-wrong-number Inv-loop μ-loop
-mul-wrong-number c = scaled-fits (c .before .loop .i) (length (c .before .before .before .args .coords .now)) 8 (omega arith) (c .before .before .before .good .1 .0 .1)
+mul-wrong-number c =
+    let entry : tie.Start Inv-loop μ-loop = search in
+    scaled-fits (c .before .loop .i) (length (entry .args .coords .now)) 8 (omega arith) (entry .good .1 .0 .1)
 
 shared-slice-read-wrong-number : tie.Need-shared-slice-read-wrong-number Inv-loop μ-loop
 shared-slice-read-wrong-number c = omega arith
@@ -35,7 +37,9 @@ loop-less : tie.Need-loop-less Inv-loop μ-loop
 loop-less c = omega arith
 
 loop-again : tie.Need-loop-again Inv-loop μ-loop
-loop-again c = (omega arith, one-more _ _ _ _ (c .before .before .before .loop .wrong) _ (c .before .before .before .loop .inv .1) (c .before .before .loop-test .taken) (c .wrong-number .ensures))
+loop-again c =
+    let at-loop : tie.At-loop Inv-loop μ-loop = search in
+    (omega arith, one-more _ _ _ _ (at-loop .loop .wrong) _ (at-loop .loop .inv .1) (c .before .before .loop-test .taken) (c .wrong-number .ensures))
 
 returns : tie.Need-returns Inv-loop μ-loop
 returns c = none-left _ _ _ _ (c .before .loop .inv .1) (c .loop-test .left)

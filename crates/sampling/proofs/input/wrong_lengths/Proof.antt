@@ -18,11 +18,15 @@ returns-3 c = simp (eq-eqb _ _ (c .before .before .if1 .left), eq-eqb _ _ (c .be
 
 returns-4 : tie.Need-returns-4
 unfolding wrongLengths
-returns-4 c = simp (eq-eqb _ _ (c .before .before .before .if1 .left), eq-eqb _ _ (c .before .before .if2 .left), eq-eqb _ _ (c .before .if3 .left), ne-eqb _ _ (c .if4 .taken))
+returns-4 c =
+    let at-if1 : tie.Else1 = search in
+    simp (eq-eqb _ _ (at-if1 .if1 .left), eq-eqb _ _ (c .before .before .if2 .left), eq-eqb _ _ (c .before .if3 .left), ne-eqb _ _ (c .if4 .taken))
 
 returns-5 : tie.Need-returns-5
 unfolding wrongLengths
-returns-5 c = simp (eq-eqb _ _ (c .before .before .before .if1 .left), eq-eqb _ _ (c .before .before .if2 .left), eq-eqb _ _ (c .before .if3 .left), eq-eqb _ _ (c .if4 .left))
+returns-5 c =
+    let at-if1 : tie.Else1 = search in
+    simp (eq-eqb _ _ (at-if1 .if1 .left), eq-eqb _ _ (c .before .before .if2 .left), eq-eqb _ _ (c .before .if3 .left), eq-eqb _ _ (c .if4 .left))
 
 pub wrong-lengths-spec : {M : Type 1} → statement M
 wrong-lengths-spec = tie.close (tie.spec returns returns-2 returns-3 returns-4 returns-5)

@@ -19,22 +19,37 @@ returns-2 c = λ h o. rw (sym (c .before .before .wrong-lengths .ensures) ∙ c 
 
 returns-3 : tie.Need-returns-3
 unfolding wrongShape
-returns-3 c = λ h o. rw (sym (c .before .before .before .wrong-lengths .ensures) ∙ c .before .before .if1 .left, ne-eqb _ _ (c .before .if2 .left), lt-ltb _ _ (c .if3 .taken))
+returns-3 c =
+    let at-wrong-lengths : tie.After-wrong-lengths = search in
+    λ h o. rw (sym (at-wrong-lengths .wrong-lengths .ensures) ∙ c .before .before .if1 .left, ne-eqb _ _ (c .before .if2 .left), lt-ltb _ _ (c .if3 .taken))
 
 returns-4 : tie.Need-returns-4
 unfolding wrongShape
-returns-4 c = λ h o. rw (sym (c .before .before .before .before .wrong-lengths .ensures) ∙ c .before .before .before .if1 .left, ne-eqb _ _ (c .before .before .if2 .left), le-ltb _ _ (c .before .if3 .left), eq-eqb _ _ (c .if4 .taken))
+returns-4 c =
+    let at-if1 : tie.Else1 = search in
+    let at-wrong-lengths : tie.After-wrong-lengths = search in
+    λ h o. rw (sym (at-wrong-lengths .wrong-lengths .ensures) ∙ at-if1 .if1 .left, ne-eqb _ _ (c .before .before .if2 .left), le-ltb _ _ (c .before .if3 .left), eq-eqb _ _ (c .if4 .taken))
 
 pairs-of-requires : tie.Need-pairs-of-requires
 pairs-of-requires c κs = search needs
 
 returns-5 : tie.Need-returns-5
 unfolding wrongShape
-returns-5 c = λ h o. rw (sym (c .before .before .before .before .before .before .wrong-lengths .ensures) ∙ c .before .before .before .before .before .if1 .left, ne-eqb _ _ (c .before .before .before .before .if2 .left), le-ltb _ _ (c .before .before .before .if3 .left), ne-eqb _ _ (c .before .before .if4 .left), rw (c .before .pairs-of .ensures) at (ne-eqb _ _ (c .if5 .taken)))
+returns-5 c =
+    let at-if3 : tie.Else3 = search in
+    let at-if2 : tie.Else2 = search in
+    let at-if1 : tie.Else1 = search in
+    let at-wrong-lengths : tie.After-wrong-lengths = search in
+    λ h o. rw (sym (at-wrong-lengths .wrong-lengths .ensures) ∙ at-if1 .if1 .left, ne-eqb _ _ (at-if2 .if2 .left), le-ltb _ _ (at-if3 .if3 .left), ne-eqb _ _ (c .before .before .if4 .left), rw (c .before .pairs-of .ensures) at (ne-eqb _ _ (c .if5 .taken)))
 
 returns-6 : tie.Need-returns-6
 unfolding wrongShape
-returns-6 c = λ h o. rw (sym (c .before .before .before .before .before .before .wrong-lengths .ensures) ∙ c .before .before .before .before .before .if1 .left, ne-eqb _ _ (c .before .before .before .before .if2 .left), le-ltb _ _ (c .before .before .before .if3 .left), ne-eqb _ _ (c .before .before .if4 .left), rw (c .before .pairs-of .ensures) at (eq-eqb _ _ (c .if5 .left)))
+returns-6 c =
+    let at-if3 : tie.Else3 = search in
+    let at-if2 : tie.Else2 = search in
+    let at-if1 : tie.Else1 = search in
+    let at-wrong-lengths : tie.After-wrong-lengths = search in
+    λ h o. rw (sym (at-wrong-lengths .wrong-lengths .ensures) ∙ at-if1 .if1 .left, ne-eqb _ _ (at-if2 .if2 .left), le-ltb _ _ (at-if3 .if3 .left), ne-eqb _ _ (c .before .before .if4 .left), rw (c .before .pairs-of .ensures) at (eq-eqb _ _ (c .if5 .left)))
 
 pub wrong-shape-spec : {M : Type 1} → statement M
 wrong-shape-spec =

@@ -39,17 +39,20 @@ loop-less c = omega arith
 
 loop-again : tie.Need-loop-again Inv-loop μ-loop
 loop-again c =
-    let start = c .before .before .before .before .before .before in
-    let l = c .before .before .before .before .loop in
+    let at-loop-test : tie.In-loop Inv-loop μ-loop = search in
+    let at-loop : tie.At-loop Inv-loop μ-loop = search in
+    let start : tie.Start Inv-loop μ-loop = search in
+    let l = at-loop .loop in
     let p = c .before .before .point-at .ensures in
-    let s = apart-step (ringOf (start .args .coords .now) (start .args .n)) (start .args .coords .now) (l .k) _ _ (l .inv .1) (l .inv .2) (omega (arith, c .before .before .before .loop-test .taken, start .pre)) p p (c .before .close-to-last .ensures) (c .if1 .left) in
+    let s = apart-step (ringOf (start .args .coords .now) (start .args .n)) (start .args .coords .now) (l .k) _ _ (l .inv .1) (l .inv .2) (omega (arith, at-loop-test .loop-test .taken, start .pre)) p p (c .before .close-to-last .ensures) (c .if1 .left) in
     (omega arith, s .0, s .1)
 
 returns-2 : tie.Need-returns-2 Inv-loop μ-loop
 returns-2 c =
+    let entry : tie.Start Inv-loop μ-loop = search in
     let l = c .before .loop in
-    let e : l .k ≡ c .before .before .before .args .n = omega arith in
-    λ q. front-part (c .before .before .before .args .coords .now) _ _ _ (c .before .before .before .pre) (rw e at (l .inv .1)) (rw e at (l .inv .2))
+    let e : l .k ≡ entry .args .n = omega arith in
+    λ q. front-part (entry .args .coords .now) _ _ _ (entry .pre) (rw e at (l .inv .1)) (rw e at (l .inv .2))
 
 pub all-apart-spec : {M : Type 1} → statement M
 all-apart-spec =

@@ -13,7 +13,10 @@ tiny-requires-2 c κs = search needs
 
 returns : tie.Need-returns
 unfolding close
-returns c = rw (c .tiny2 .ensures, sym (c .before .before .before .before .tiny .ensures) ∙ c .before .before .before .if1 .taken)
+returns c =
+    let at-if1 : tie.Then1 = search in
+    let at-tiny : tie.After-tiny = search in
+    rw (c .tiny2 .ensures, sym (at-tiny .tiny .ensures) ∙ at-if1 .if1 .taken)
 
 returns-2 : tie.Need-returns-2
 unfolding close

@@ -18,7 +18,9 @@ close-requires : tie.Need-close-requires
 close-requires c κs = search needs
 
 returns-2 : tie.Need-returns-2
-returns-2 c = rw (lt-ltb 0 (c .before .before .before .before .args .m) (omega (arith, c .before .before .if1 .left)), c .close .ensures, c .before .point-at .ensures)
+returns-2 c =
+    let entry : tie.Start = search in
+    rw (lt-ltb 0 (entry .args .m) (omega (arith, c .before .before .if1 .left)), c .close .ensures, c .before .point-at .ensures)
 
 pub close-to-last-spec : {M : Type 1} → statement M
 close-to-last-spec =

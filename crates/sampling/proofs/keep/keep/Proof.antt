@@ -35,10 +35,12 @@ loop-less c = omega arith
 
 loop-again : tie.Need-loop-again Inv-loop μ-loop
 loop-again c =
-    let start = c .before .before .before .before .before .before .before .before .before in
+    let at-point-at : tie.After-point-at Inv-loop μ-loop = search in
+    let at-loop : tie.At-loop Inv-loop μ-loop = search in
+    let start : tie.Start Inv-loop μ-loop = search in
     let keep-point = c .before .before .keep-point in
-    let l = c .before .before .before .before .before .before .loop in
-    let s = keep-step (ringOf (start .args .coords .now) (start .args .n)) (start .args .kept .now) _ _ (l .k) (l .m) _ _ (l .inv .2) (l .inv .3) (omega arith) (c .before .before .before .before .point-at .ensures) (keep-point .ensures .0) (keep-point .ensures .1) in (
+    let l = at-loop .loop in
+    let s = keep-step (ringOf (start .args .coords .now) (start .args .n)) (start .args .kept .now) _ _ (l .k) (l .m) _ _ (l .inv .2) (l .inv .3) (omega arith) (at-point-at .point-at .ensures) (keep-point .ensures .0) (keep-point .ensures .1) in (
       omega arith,
       omega (arith, s .2),
       s .0,
@@ -51,7 +53,8 @@ same-length c = c .before .loop .inv .4
 
 returns : tie.Need-returns Inv-loop μ-loop
 returns c =
-    let e : c .before .loop .k ≡ c .before .before .before .before .args .n = omega arith in
+    let entry : tie.Start Inv-loop μ-loop = search in
+    let e : c .before .loop .k ≡ entry .args .n = omega arith in
     (omega arith, rw e at (c .before .loop .inv .2), rw e at (c .before .loop .inv .3))
 
 pub keep-spec : {M : Type 1} → statement M

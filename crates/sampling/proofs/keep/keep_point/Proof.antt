@@ -24,7 +24,10 @@ same-length-2 : tie.Need-same-length-2
 same-length-2 c = search needs
 
 returns-2 : tie.Need-returns-2
-returns-2 c = rw (sym (c .before .before .before .before .before .close-to-last .ensures) ∙ c .before .before .before .before .if1 .left) (refl, c .before .before .put-point .ensures)
+returns-2 c =
+    let at-if1 : tie.Else1 = search in
+    let at-close-to-last : tie.After-close-to-last = search in
+    rw (sym (at-close-to-last .close-to-last .ensures) ∙ at-if1 .if1 .left) (refl, c .before .before .put-point .ensures)
 
 pub keep-point-spec : {M : Type 1} → statement M
 keep-point-spec =

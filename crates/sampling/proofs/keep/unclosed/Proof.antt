@@ -36,10 +36,14 @@ close-requires c κs = search needs
 
 returns : tie.Need-returns Inv-loop μ-loop
 returns c =
-    let l = c .before .before .before .before .before .loop in
+    let at-point-at : tie.After-point-at Inv-loop μ-loop = search in
+    let at-loop-test : tie.In-loop Inv-loop μ-loop = search in
+    let at-loop : tie.At-loop Inv-loop μ-loop = search in
+    let entry : tie.Start Inv-loop μ-loop = search in
+    let l = at-loop .loop in
     let t = sym (c .before .close .ensures) ∙ not-true _ (c .if1 .taken) in
-    let e = pop-step (c .before .before .before .before .before .before .before .args .kept .now) (l .m) (c .before .before .before .before .loop-test .taken) in
-    (sym (rw (← (c .before .before .before .point-at .ensures), ← (c .before .before .point-at2 .ensures), t) at e) ∙ l .inv .1, omega arith)
+    let e = pop-step (entry .args .kept .now) (l .m) (at-loop-test .loop-test .taken) in
+    (sym (rw (← (at-point-at .point-at .ensures), ← (c .before .before .point-at2 .ensures), t) at e) ∙ l .inv .1, omega arith)
 
 sub-m : tie.Need-sub-m Inv-loop μ-loop
 sub-m c = omega arith
@@ -49,10 +53,14 @@ loop-less c = omega arith
 
 loop-again : tie.Need-loop-again Inv-loop μ-loop
 loop-again c =
-    let l = c .before .before .before .before .before .loop in
+    let at-point-at : tie.After-point-at Inv-loop μ-loop = search in
+    let at-loop-test : tie.In-loop Inv-loop μ-loop = search in
+    let at-loop : tie.At-loop Inv-loop μ-loop = search in
+    let entry : tie.Start Inv-loop μ-loop = search in
+    let l = at-loop .loop in
     let t = sym (c .before .close .ensures) ∙ not-false _ (c .if1 .left) in
-    let e = pop-step (c .before .before .before .before .before .before .before .args .kept .now) (l .m) (c .before .before .before .before .loop-test .taken) in
-    (omega arith, sym (rw (← (c .before .before .before .point-at .ensures), ← (c .before .before .point-at2 .ensures), t) at e) ∙ l .inv .1)
+    let e = pop-step (entry .args .kept .now) (l .m) (at-loop-test .loop-test .taken) in
+    (omega arith, sym (rw (← (at-point-at .point-at .ensures), ← (c .before .before .point-at2 .ensures), t) at e) ∙ l .inv .1)
 
 returns-2 : tie.Need-returns-2 Inv-loop μ-loop
 returns-2 c = (pop-none _ _ (c .loop-test .left) ∙ c .before .loop .inv .1, omega arith)

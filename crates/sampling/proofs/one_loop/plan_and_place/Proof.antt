@@ -32,20 +32,24 @@ same-length-2 c = search needs
 
 returns : tie.Need-returns
 returns c =
-    let start = c .before .before .before .before .before .before .before .before .before .before .before .before .before in
+    let at-plan-sides : tie.After-plan-sides = search in
+    let start : tie.Start = search in
     let r = turnedIf (start .args .back) (ringOf (start .args .pts .now) (start .args .n)) in
     let x = start .args .before + loops.planned (start .args .h) (start .args .options) r in
     let l = length (loops.placed (start .args .h) (start .args .options) r (start .args .n)) in
-    (c .refused .ensures ∙ ten x l (over (start .args .h) (start .args .options) r _ _ (c .before .before .before .before .before .before .plan-sides .ensures .0) (c .before .if1 .taken)), refusal _ _ (c .refused .ensures) (lit< tt))
+    (c .refused .ensures ∙ ten x l (over (start .args .h) (start .args .options) r _ _ (at-plan-sides .plan-sides .ensures .0) (c .before .if1 .taken)), refusal _ _ (c .refused .ensures) (lit< tt))
 
 longer-side-requires : tie.Need-longer-side-requires
 longer-side-requires c κs = search needs
 
 place-requires : tie.Need-place-requires
 place-requires c κs =
-    let start = c .before .before .before .before .before .before .before .before .before .before .before .before .before .before .before .before in
-    let plan-sides = c .before .before .before .before .before .before .before .before .before .plan-sides in
-    let if1 = c .before .before .before .before .if1 in
+    let at-longer-side : tie.After-longer-side = search in
+    let at-if1 = at-longer-side .before in
+    let at-plan-sides : tie.After-plan-sides = search in
+    let start : tie.Start = search in
+    let plan-sides = at-plan-sides .plan-sides in
+    let if1 = at-if1 .if1 in
     let r = turnedIf (start .args .back) (ringOf (start .args .pts .now) (start .args .n)) in
     let w = within-is (start .args .h) (start .args .options) r (start .args .before) _ (plan-sides .ensures .0) (if1 .left) in (
       (start .pre .0 .0, omega (arith, start .pre .0 .3, plan-sides .kept .1 .1 .1 .1 .1 .0), omega (arith, start .pre .0 .4, plan-sides .kept .1 .1 .1 .1 .1 .1 .0)),
@@ -54,7 +58,7 @@ place-requires c κs =
         (
           plan-sides .ensures .3,
           (
-            parts-are (start .args .h) (start .args .options) r _ _ _ (w .0) (plan-sides .ensures .1) (c .before .before .before .longer-side .ensures),
+            parts-are (start .args .h) (start .args .options) r _ _ _ (w .0) (plan-sides .ensures .1) (at-longer-side .longer-side .ensures),
             (omega (arith, w .1, if1 .left, start .pre .1 .0), omega (arith, start .pre .1 .2)),
           ),
         ),
@@ -75,11 +79,14 @@ same-length-5 c = search needs
 
 returns-2 : tie.Need-returns-2
 returns-2 c =
-    let start = c .before .before .before .before .before .before .before .before .before .before .before .before .before .before .before .before .before .before .before .before .before in
-    let if1 = c .before .before .before .before .before .before .before .before .before .if1 in
-    let place = c .before .before .before .before .place in
+    let at-place : tie.After-place = search in
+    let at-if1 = at-place .before .before .before .before .before in
+    let at-plan-sides : tie.After-plan-sides = search in
+    let start : tie.Start = search in
+    let if1 = at-if1 .if1 in
+    let place = at-place .place in
     let r = turnedIf (start .args .back) (ringOf (start .args .pts .now) (start .args .n)) in
-    let w = within-is (start .args .h) (start .args .options) r (start .args .before) _ (c .before .before .before .before .before .before .before .before .before .before .before .before .before .before .plan-sides .ensures .0) (if1 .left) in
+    let w = within-is (start .args .h) (start .args .options) r (start .args .before) _ (at-plan-sides .plan-sides .ensures .0) (if1 .left) in
     let few : start .args .before + loops.planned (start .args .h) (start .args .options) r ≤ 2048 = omega (arith, w .1, if1 .left) in
     (c .refused2 .ensures ∙ eight _ _ (place .result) few (place .ensures .0) (c .before .if2 .taken), refusal _ _ (c .refused2 .ensures) (lit< tt))
 
@@ -97,11 +104,14 @@ same-length-8 c = search needs
 
 returns-3 : tie.Need-returns-3
 returns-3 c =
-    let start = c .before .before .before .before .before .before .before .before .before .before .before .before .before .before .before .before .before .before .before .before .before .before in
-    let if1 = c .before .before .before .before .before .before .before .before .before .before .if1 in
-    let place = c .before .before .before .before .before .place in
+    let at-place : tie.After-place = search in
+    let at-if1 = at-place .before .before .before .before .before in
+    let at-plan-sides : tie.After-plan-sides = search in
+    let start : tie.Start = search in
+    let if1 = at-if1 .if1 in
+    let place = at-place .place in
     let r = turnedIf (start .args .back) (ringOf (start .args .pts .now) (start .args .n)) in
-    let w = within-is (start .args .h) (start .args .options) r (start .args .before) _ (c .before .before .before .before .before .before .before .before .before .before .before .before .before .before .before .plan-sides .ensures .0) (if1 .left) in
+    let w = within-is (start .args .h) (start .args .options) r (start .args .before) _ (at-plan-sides .plan-sides .ensures .0) (if1 .left) in
     let few : start .args .before + loops.planned (start .args .h) (start .args .options) r ≤ 2048 = omega (arith, w .1, if1 .left) in
     (c .refused3 .ensures ∙ nine _ _ (place .result) few (place .ensures .0) (c .before .before .if2 .left) (c .before .if3 .taken), refusal _ _ (c .refused3 .ensures) (lit< tt))
 
@@ -116,11 +126,14 @@ same-length-11 c = search needs
 
 returns-4 : tie.Need-returns-4
 returns-4 c =
-    let start = c .before .before .before .before .before .before .before .before .before .before .before .before .before .before .before .before .before .before .before .before .before in
-    let if1 = c .before .before .before .before .before .before .before .before .before .if1 in
-    let place = c .before .before .before .before .place in
+    let at-place : tie.After-place = search in
+    let at-if1 = at-place .before .before .before .before .before in
+    let at-plan-sides : tie.After-plan-sides = search in
+    let start : tie.Start = search in
+    let if1 = at-if1 .if1 in
+    let place = at-place .place in
     let r = turnedIf (start .args .back) (ringOf (start .args .pts .now) (start .args .n)) in
-    let w = within-is (start .args .h) (start .args .options) r (start .args .before) _ (c .before .before .before .before .before .before .before .before .before .before .before .before .before .before .plan-sides .ensures .0) (if1 .left) in
+    let w = within-is (start .args .h) (start .args .options) r (start .args .before) _ (at-plan-sides .plan-sides .ensures .0) (if1 .left) in
     let few : start .args .before + loops.planned (start .args .h) (start .args .options) r ≤ 2048 = omega (arith, w .1, if1 .left) in (
       no-number _ _ (place .result) few (place .ensures .0) (c .before .if2 .left) (c .if3 .left),
       λ q. record {

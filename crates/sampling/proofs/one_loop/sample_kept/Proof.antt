@@ -13,7 +13,7 @@ refused-requires c κs = search needs
 
 returns : tie.Need-returns
 returns c =
-    let start = c .before .before .before .before .before .before .before in
+    let start : tie.Start = search in
     λ given e.
     (seven (start .args .h) (start .args .options) (start .args .before) (start .args .ccw) given _ (c .before .before .kept-ring .ensures .1 given e) _ (c .refused .ensures) (c .before .if1 .taken), refusal _ _ (c .refused .ensures) (lit< tt))
 
@@ -31,11 +31,14 @@ same-length-3 c = search needs
 
 returns-2 : tie.Need-returns-2
 returns-2 c =
-    let start = c .before .before .before .before .before .before .before .before .before .before .before .before .before .before .before .before in
-    let plan-and-place = c .before .before .before .before .before .before .plan-and-place in
+    let at-plan-and-place : tie.After-plan-and-place = search in
+    let at-if1 : tie.Else1 = search in
+    let at-kept-ring : tie.After-kept-ring = search in
+    let start : tie.Start = search in
+    let plan-and-place = at-plan-and-place .plan-and-place in
     λ given e.
-    let f = c .before .before .before .before .before .before .before .before .before .before .before .kept-ring .ensures .1 given e in (
-      not-seven (start .args .h) (start .args .options) (start .args .before) (start .args .ccw) given _ f _ (c .before .before .before .before .before .before .before .before .before .before .if1 .left) (plan-and-place .ensures .0),
+    let f = at-kept-ring .kept-ring .ensures .1 given e in (
+      not-seven (start .args .h) (start .args .options) (start .args .before) (start .args .ccw) given _ f _ (at-if1 .if1 .left) (plan-and-place .ensures .0),
       λ q. of-loop (start .args .h) (start .args .options) (start .args .before) (start .args .ccw) given _ f _ _ _ _ _ (plan-and-place .ensures .1 q),
     )
 

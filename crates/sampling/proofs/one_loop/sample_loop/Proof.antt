@@ -17,10 +17,14 @@ mul-end : tie.Need-mul-end
 mul-end c = search needs
 
 slice-aggregate-sample-kept : tie.Need-slice-aggregate-sample-kept
-slice-aggregate-sample-kept c = sym (length-take-le _ _ (c .before .before .before .before .before .before .before .before .pre .0 .0))
+slice-aggregate-sample-kept c =
+    let entry : tie.Start = search in
+    sym (length-take-le _ _ (entry .pre .0 .0))
 
 sample-kept-requires : tie.Need-sample-kept-requires
-sample-kept-requires c κs = ((sym (length-take-le _ _ (c .before .before .before .before .before .before .before .before .before .before .before .pre .0 .0)), c .before .before .before .before .before .before .before .before .before .before .before .pre .0 .1, c .before .before .before .before .before .before .before .before .before .before .before .pre .0 .3, c .before .before .before .before .before .before .before .before .before .before .before .pre .0 .4), c .before .before .before .before .before .before .before .before .before .before .before .pre .1)
+sample-kept-requires c κs =
+    let entry : tie.Start = search in
+    ((sym (length-take-le _ _ (entry .pre .0 .0)), entry .pre .0 .1, entry .pre .0 .3, entry .pre .0 .4), entry .pre .1)
 
 same-length : tie.Need-same-length
 same-length c = search needs
@@ -32,7 +36,12 @@ same-length-3 : tie.Need-same-length-3
 same-length-3 c = search needs
 
 returns : tie.Need-returns
-returns c = c .before .before .before .before .before .before .sample-kept .ensures (ringOf (c .before .before .before .before .before .before .before .before .before .before .before .before .before .before .before .before .before .before .args .coords .now) (c .before .before .before .before .before .before .before .before .before .before .before .before .before .before .before .before .before .before .args .n)) (c .before .before .before .before .before .before .before .before .before .before .before .before .all-apart .ensures (c .before .before .before .before .before .before .before .before .before .before .before .if1 .taken))
+returns c =
+    let at-sample-kept : tie.After-sample-kept = search in
+    let at-if1 : tie.Then1 = search in
+    let at-all-apart : tie.After-all-apart = search in
+    let entry : tie.Start = search in
+    at-sample-kept .sample-kept .ensures (ringOf (entry .args .coords .now) (entry .args .n)) (at-all-apart .all-apart .ensures (at-if1 .if1 .taken))
 
 keep-requires : tie.Need-keep-requires
 keep-requires c κs = search needs
@@ -44,12 +53,16 @@ slice-reshare-prefix-sample-kept : tie.Need-slice-reshare-prefix-sample-kept
 slice-reshare-prefix-sample-kept c = search needs
 
 slice-aggregate-sample-kept-2 : tie.Need-slice-aggregate-sample-kept-2
-slice-aggregate-sample-kept-2 c = sym (length-take-le _ _ (omega (arith, c .before .before .before .keep .ensures .0, c .before .before .before .keep .kept .1 .1 .0, c .before .before .before .before .before .before .before .before .before .before .before .before .pre .0 .2)))
+slice-aggregate-sample-kept-2 c =
+    let at-keep : tie.After-keep = search in
+    let entry : tie.Start = search in
+    sym (length-take-le _ _ (omega (arith, at-keep .keep .ensures .0, at-keep .keep .kept .1 .1 .0, entry .pre .0 .2)))
 
 sample-kept-requires-2 : tie.Need-sample-kept-requires-2
 sample-kept-requires-2 c κs =
-    let start = c .before .before .before .before .before .before .before .before .before .before .before .before .before .before .before in
-    let keep = c .before .before .before .before .before .before .keep in (
+    let at-keep : tie.After-keep = search in
+    let start : tie.Start = search in
+    let keep = at-keep .keep in (
       (
         sym (length-take-le _ _ (omega (arith, keep .ensures .0, keep .kept .1 .1 .0, start .pre .0 .2))),
         omega (arith, keep .ensures .0, start .pre .0 .1),
@@ -73,10 +86,12 @@ same-length-7 c = search needs
 
 returns-2 : tie.Need-returns-2
 returns-2 c =
-    let start = c .before .before .before .before .before .before .before .before .before .before .before .before .before .before .before .before .before .before .before .before .before .before in
-    let keep = c .before .before .before .before .before .before .before .before .before .before .before .before .before .keep in
+    let at-sample-kept2 : tie.After-sample-kept2 = search in
+    let at-keep : tie.After-keep = search in
+    let start : tie.Start = search in
+    let keep = at-keep .keep in
     let fits : keep .result * 2 ≤ length (start .args .buffer .now) = omega (arith, keep .ensures .0, start .pre .0 .2) in
-    c .before .before .before .before .before .before .sample-kept2 .ensures (ringOf (start .args .coords .now) (start .args .n)) (front-part (start .args .buffer .now) _ _ _ fits (keep .ensures .1) (keep .ensures .2))
+    at-sample-kept2 .sample-kept2 .ensures (ringOf (start .args .coords .now) (start .args .n)) (front-part (start .args .buffer .now) _ _ _ fits (keep .ensures .1) (keep .ensures .2))
 
 pub sample-loop-spec : {M : Type 1} → statement M
 sample-loop-spec =

@@ -11,7 +11,10 @@ whole-requires-2 : tie.Need-whole-requires-2
 whole-requires-2 c κs = search needs
 
 returns : tie.Need-returns
-returns c = rw (half-is, c .before .before .before .before .before .before .before .whole .ensures, c .before .before .before .before .before .before .whole2 .ensures)
+returns c =
+    let at-whole2 : tie.After-whole2 = search in
+    let at-whole : tie.After-whole = search in
+    rw (half-is, at-whole .whole .ensures, at-whole2 .whole2 .ensures)
 
 pub inner-point-spec : {M : Type 1} → statement M
 inner-point-spec = tie.close (tie.spec whole-requires whole-requires-2 returns)

@@ -30,7 +30,7 @@ loop-holds c = (omega arith, refl, refl, refl, omega arith)
 
 mul-length : tie.Need-mul-length Inv-loop μ-loop
 mul-length c =
-    let start = c .before .before .before .before .before .before in
+    let start : tie.Start Inv-loop μ-loop = search in
     scaled-fits (c .before .loop .i) (length (start .args .lengths .now)) 8 (omega arith) (start .good .1 .1 .1 .1 .1 .0 .1)
 
 shared-slice-read-length : tie.Need-shared-slice-read-length Inv-loop μ-loop
@@ -38,30 +38,37 @@ shared-slice-read-length c = omega arith
 
 mul-span : tie.Need-mul-span Inv-loop μ-loop
 mul-span c =
-    let start = c .before .before .before .before .before .before .before in
+    let start : tie.Start Inv-loop μ-loop = search in
     scaled-fits (c .before .before .loop .i) (length (start .args .spans .now)) 8 (omega arith) (start .good .1 .1 .1 .1 .1 .1 .0 .1)
 
 shared-slice-read-span : tie.Need-shared-slice-read-span Inv-loop μ-loop
 shared-slice-read-span c = omega arith
 
 add-place-side : tie.Need-add-place-side Inv-loop μ-loop
-add-place-side c = omega (arith, c .before .before .before .before .before .before .before .before .before .pre .1 .1 .1 .1 .0, c .before .before .before .before .loop .inv .4)
+add-place-side c =
+    let at-loop : tie.At-loop Inv-loop μ-loop = search in
+    let entry : tie.Start Inv-loop μ-loop = search in
+    omega (arith, entry .pre .1 .1 .1 .1 .0, at-loop .loop .inv .4)
 
 place-side-requires : tie.Need-place-side-requires Inv-loop μ-loop
 place-side-requires c κs =
-    let start = c .before .before .before .before .before .before .before .before .before in
-    let loop-test = c .before .before .before .loop-test in
+    let at-loop-test = c .before .before .before in
+    let at-loop : tie.At-loop Inv-loop μ-loop = search in
+    let start : tie.Start Inv-loop μ-loop = search in
+    let loop-test = at-loop-test .loop-test in
     let r = turnedIf (start .args .back) (ringOf (start .args .pts .now) (start .args .n)) in
-    let l = c .before .before .before .before .loop in
+    let l = at-loop .loop in
     let fits = room (start .args .h) (start .args .options) r (l .i) (l .placed) (loop-test .taken) (l .inv .1) in
     ((start .pre .0 .0, loop-test .taken, start .pre .1 .0 (l .i) (loop-test .taken), start .pre .1 .1 .0 (l .i) (loop-test .taken)), (start .pre .1 .1 .1 .0 (l .i) (loop-test .taken), (omega (arith, fits, start .pre .1 .1 .1 .1 .0), omega (arith, start .pre .1 .1 .1 .1 .1, l .inv .3))))
 
 add-placed : tie.Need-add-placed Inv-loop μ-loop
 add-placed c =
-    let start = c .before .before .before .before .before .before .before .before .before .before .before .before in
+    let at-loop-test : tie.In-loop Inv-loop μ-loop = search in
+    let at-loop : tie.At-loop Inv-loop μ-loop = search in
+    let start : tie.Start Inv-loop μ-loop = search in
     let r = turnedIf (start .args .back) (ringOf (start .args .pts .now) (start .args .n)) in
-    let l = c .before .before .before .before .before .before .before .loop in
-    omega (arith, room (start .args .h) (start .args .options) r (l .i) (l .placed) (c .before .before .before .before .before .before .loop-test .taken) (l .inv .1), placed-few (start .args .h) (start .args .options) r (l .i), c .before .before .place-side .ensures .0, start .pre .1 .1 .1 .1 .0)
+    let l = at-loop .loop in
+    omega (arith, room (start .args .h) (start .args .options) r (l .i) (l .placed) (at-loop-test .loop-test .taken) (l .inv .1), placed-few (start .args .h) (start .args .options) r (l .i), c .before .before .place-side .ensures .0, start .pre .1 .1 .1 .1 .0)
 
 add-i : tie.Need-add-i Inv-loop μ-loop
 add-i c = omega arith
@@ -71,15 +78,17 @@ loop-less c = omega arith
 
 loop-again : tie.Need-loop-again Inv-loop μ-loop
 loop-again c =
-    let start = c .before .before .before .before .before .before .before .before .before .before .before .before in
+    let at-loop-test : tie.In-loop Inv-loop μ-loop = search in
+    let at-loop : tie.At-loop Inv-loop μ-loop = search in
+    let start : tie.Start Inv-loop μ-loop = search in
     let place-side = c .before .before .place-side in
     let r = turnedIf (start .args .back) (ringOf (start .args .pts .now) (start .args .n)) in
-    let l = c .before .before .before .before .before .before .before .loop in (
+    let l = at-loop .loop in (
       omega arith,
       count-step (start .args .h) (start .args .options) r (l .i) _ _ (l .inv .1) (place-side .ensures .0),
       placed-step (start .args .h) (start .args .options) r (l .i) (start .args .at) (l .placed) _ _ _ (l .inv .1) (l .inv .2) (place-side .ensures .1),
       place-side .kept .1 .1 .1 .1 .1 .1 .1 .1 .1 .0 ∙ l .inv .3,
-      omega (arith, room (start .args .h) (start .args .options) r (l .i) (l .placed) (c .before .before .before .before .before .before .loop-test .taken) (l .inv .1), placed-few (start .args .h) (start .args .options) r (l .i), place-side .ensures .0),
+      omega (arith, room (start .args .h) (start .args .options) r (l .i) (l .placed) (at-loop-test .loop-test .taken) (l .inv .1), placed-few (start .args .h) (start .args .options) r (l .i), place-side .ensures .0),
     )
 
 same-length : tie.Need-same-length Inv-loop μ-loop
@@ -87,7 +96,8 @@ same-length c = c .before .loop .inv .3
 
 returns : tie.Need-returns Inv-loop μ-loop
 returns c =
-    let e : c .before .loop .i ≡ c .before .before .before .before .before .before .args .n = omega arith in
+    let entry : tie.Start Inv-loop μ-loop = search in
+    let e : c .before .loop .i ≡ entry .args .n = omega arith in
     (rw e at (c .before .loop .inv .1), c .before .loop .inv .4, rw e at (c .before .loop .inv .2))
 
 pub place-spec : {M : Type 1} → statement M

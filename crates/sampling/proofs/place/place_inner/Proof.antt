@@ -24,7 +24,9 @@ inner-point-requires : tie.Need-inner-point-requires Inv-loop μ-loop
 inner-point-requires c κs = (omega arith, omega arith)
 
 add-put-point : tie.Need-add-put-point Inv-loop μ-loop
-add-put-point c = omega (arith, c .before .before .before .before .before .good .1 .1 .1 .1 .1 .1 .0 .0)
+add-put-point c =
+    let entry : tie.Start Inv-loop μ-loop = search in
+    omega (arith, entry .good .1 .1 .1 .1 .1 .1 .0 .0)
 
 put-point-requires : tie.Need-put-point-requires Inv-loop μ-loop
 put-point-requires c κs = omega arith
@@ -37,11 +39,13 @@ loop-less c = omega arith
 
 loop-again : tie.Need-loop-again Inv-loop μ-loop
 loop-again c =
-    let start = c .before .before .before .before .before .before .before .before in
+    let at-inner-point : tie.After-inner-point Inv-loop μ-loop = search in
+    let at-loop : tie.At-loop Inv-loop μ-loop = search in
+    let start : tie.Start Inv-loop μ-loop = search in
     let put-point = c .before .before .put-point in
-    let l = c .before .before .before .before .before .before .loop in (
+    let l = at-loop .loop in (
       omega arith,
-      put-point .ensures ∙ between-step (start .args .a) (start .args .b) (start .args .length) (start .args .margin) (start .args .span) (start .args .k) _ _ (start .args .at) (l .j) _ (l .inv .1) (c .before .before .before .before .inner-point .ensures),
+      put-point .ensures ∙ between-step (start .args .a) (start .args .b) (start .args .length) (start .args .margin) (start .args .span) (start .args .k) _ _ (start .args .at) (l .j) _ (l .inv .1) (at-inner-point .inner-point .ensures),
       put-point .kept .0 ∙ l .inv .2,
     )
 
@@ -50,7 +54,8 @@ same-length c = c .before .loop .inv .2
 
 returns : tie.Need-returns Inv-loop μ-loop
 returns c =
-    let e : c .before .loop .j ≡ c .before .before .before .args .k = omega arith in
+    let entry : tie.Start Inv-loop μ-loop = search in
+    let e : c .before .loop .j ≡ entry .args .k = omega arith in
     rw e at (c .before .loop .inv .1)
 
 pub place-inner-spec : {M : Type 1} → statement M

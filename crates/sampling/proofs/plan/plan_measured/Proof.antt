@@ -30,17 +30,22 @@ slice-read-first c = omega arith
 
 loop-holds : tie.Need-loop-holds Inv-loop μ-loop
 loop-holds c =
-    let start = c .before .before .before in
+    let start : tie.Start Inv-loop μ-loop = search in
     (omega arith, refl, omega arith, λ k q l. refl, λ o r w. at-first (start .args .h) o r (start .args .n) _ _ _ w (start .pre .0) (ap neg one-is))
 
 next-of-requires : tie.Need-next-of-requires Inv-loop μ-loop
 next-of-requires c κs = omega arith
 
 margin-behind-requires : tie.Need-margin-behind-requires Inv-loop μ-loop
-margin-behind-requires c κs = omega (arith, c .next-of .ensures .1, c .before .before .before .loop .inv .1)
+margin-behind-requires c κs =
+    let at-loop : tie.At-loop Inv-loop μ-loop = search in
+    omega (arith, c .next-of .ensures .1, at-loop .loop .inv .1)
 
 mul-length : tie.Need-mul-length Inv-loop μ-loop
-mul-length c = scaled-fits (c .before .before .before .before .loop .i) (length (c .before .before .before .before .before .before .before .before .args .lengths .now)) 8 (omega arith) (c .before .before .before .before .before .before .before .before .good .1 .1 .0 .1)
+mul-length c =
+    let at-loop : tie.At-loop Inv-loop μ-loop = search in
+    let entry : tie.Start Inv-loop μ-loop = search in
+    scaled-fits (at-loop .loop .i) (length (entry .args .lengths .now)) 8 (omega arith) (entry .good .1 .1 .0 .1)
 
 shared-slice-read-length : tie.Need-shared-slice-read-length Inv-loop μ-loop
 shared-slice-read-length c = omega arith
@@ -49,7 +54,10 @@ span-of-requires : tie.Need-span-of-requires Inv-loop μ-loop
 span-of-requires c κs = search needs
 
 mul-spans : tie.Need-mul-spans Inv-loop μ-loop
-mul-spans c = scaled-fits (c .before .before .before .before .before .before .loop .i) (length (c .before .before .before .before .before .before .before .before .before .before .args .spans .now)) 8 (omega arith) (c .before .before .before .before .before .before .before .before .before .before .good .1 .1 .1 .0 .1)
+mul-spans c =
+    let at-loop : tie.At-loop Inv-loop μ-loop = search in
+    let entry : tie.Start Inv-loop μ-loop = search in
+    scaled-fits (at-loop .loop .i) (length (entry .args .spans .now)) 8 (omega arith) (entry .good .1 .1 .1 .0 .1)
 
 slice-write-spans : tie.Need-slice-write-spans Inv-loop μ-loop
 slice-write-spans c = omega arith
@@ -58,7 +66,9 @@ inner-of-requires : tie.Need-inner-of-requires Inv-loop μ-loop
 inner-of-requires c κs = search needs
 
 capped-requires : tie.Need-capped-requires Inv-loop μ-loop
-capped-requires c κs = c .before .before .before .before .before .before .before .loop .inv .2
+capped-requires c κs =
+    let at-loop : tie.At-loop Inv-loop μ-loop = search in
+    at-loop .loop .inv .2
 
 longer-requires : tie.Need-longer-requires Inv-loop μ-loop
 longer-requires c κs = search needs
@@ -71,16 +81,21 @@ loop-less c = omega arith
 
 loop-again : tie.Need-loop-again Inv-loop μ-loop
 loop-again c =
-    let start = c .before .before .before .before .before .before .before .before .before .before .before .before .before in
-    let l = c .before .before .before .before .before .before .before .before .before .loop in
-    let more = c .before .before .before .before .before .before .before .before .loop-test .taken in
+    let at-span-of : tie.After-span-of Inv-loop μ-loop = search in
+    let at-margin-behind : tie.After-margin-behind Inv-loop μ-loop = search in
+    let at-next-of : tie.After-next-of Inv-loop μ-loop = search in
+    let at-loop-test : tie.In-loop Inv-loop μ-loop = search in
+    let at-loop : tie.At-loop Inv-loop μ-loop = search in
+    let start : tie.Start Inv-loop μ-loop = search in
+    let l = at-loop .loop in
+    let more = at-loop-test .loop-test .taken in
     let room : l .i < length (l .spans) = omega (arith, l .inv .1, more, start .pre .3) in (
       omega arith,
       simp length-set (l .inv .1),
       omega (arith, c .before .capped .ensures),
       table-rest (l .spans) nan (λ (k : ℕ). getD (start .args .spans .now) k nan) (l .i) _ _ (l .inv .3),
       λ o r w.
-          one-side (start .args .h) o r (start .args .n) (l .i) _ _ _ _ _ _ _ _ _ _ _ _ _ _ _ (l .spans) w more room refl (l .inv .3) (l .inv .4 o r w) (c .before .before .before .before .before .before .next-of .ensures .0) (c .before .before .before .before .before .margin-behind .ensures) refl (c .before .before .before .span-of .ensures)
+          one-side (start .args .h) o r (start .args .n) (l .i) _ _ _ _ _ _ _ _ _ _ _ _ _ _ _ (l .spans) w more room refl (l .inv .3) (l .inv .4 o r w) (at-next-of .next-of .ensures .0) (at-margin-behind .margin-behind .ensures) refl (at-span-of .span-of .ensures)
           (c .before .before .inner-of .ensures) (c .before .capped .ensures) (c .longer .ensures .0) (c .longer .ensures .1),
     )
 
@@ -92,7 +107,7 @@ same-length c = c .before .loop .inv .1
 
 returns : tie.Need-returns Inv-loop μ-loop
 returns c =
-    let start = c .before .before .before .before .before in
+    let start : tie.Start Inv-loop μ-loop = search in
     let l = c .before .loop in
     let e : l .i ≡ start .args .n = omega arith in
     λ o r w.

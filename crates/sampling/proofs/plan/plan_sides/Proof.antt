@@ -17,8 +17,9 @@ same-length-2 c = search needs
 
 returns : tie.Need-returns
 returns c =
-    let start = c .before .before .before .before .before .before .before .before .before .before .before .before .before .before .before in
-    let measure-sides = c .before .before .before .before .before .before .before .before .before .measure-sides in
+    let at-measure-sides : tie.After-measure-sides = search in
+    let start : tie.Start = search in
+    let measure-sides = at-measure-sides .measure-sides in
     let planned = c .before .before .plan-measured .ensures (start .args .options) _ (measure-sides .ensures) in
     (planned .0, planned .1, measure-sides .ensures .lengthsAre, planned .2)
 

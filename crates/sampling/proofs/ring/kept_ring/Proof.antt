@@ -11,7 +11,9 @@ turns-requires : tie.Need-turns-requires
 turns-requires c κs = search needs
 
 returns : tie.Need-returns
-returns c = (c .before .unclosed .ensures .1, λ given e. ring-found _ _ given _ (c .before .before .before .args .kept) _ e (c .before .before .before .pre) (c .before .unclosed .ensures .0) (c .turns .ensures))
+returns c =
+    let entry : tie.Start = search in
+    (c .before .unclosed .ensures .1, λ given e. ring-found _ _ given _ (entry .args .kept) _ e (entry .pre) (c .before .unclosed .ensures .0) (c .turns .ensures))
 
 pub kept-ring-spec : {M : Type 1} → statement M
 kept-ring-spec = tie.close (tie.spec unclosed-requires turns-requires returns)

@@ -29,7 +29,13 @@ sharp-between-requires : tie.Need-sharp-between-requires
 sharp-between-requires c κs = search needs
 
 returns : tie.Need-returns
-returns c = sharp-step _ _ _ _ _ _ _ _ _ _ (c .before .before .before .before .before .before .before .prev-of .ensures .0) (c .before .before .before .before .before .before .next-of .ensures .0) (c .before .before .before .before .before .ring-point .ensures) (c .before .before .before .before .ring-point2 .ensures) (c .before .before .before .ring-point3 .ensures) (c .before .before .toward .ensures) (c .before .toward2 .ensures) (c .sharp-between .ensures)
+returns c =
+    let at-ring-point3 : tie.After-ring-point3 = search in
+    let at-ring-point2 : tie.After-ring-point2 = search in
+    let at-ring-point : tie.After-ring-point = search in
+    let at-next-of : tie.After-next-of = search in
+    let at-prev-of : tie.After-prev-of = search in
+    sharp-step _ _ _ _ _ _ _ _ _ _ (at-prev-of .prev-of .ensures .0) (at-next-of .next-of .ensures .0) (at-ring-point .ring-point .ensures) (at-ring-point2 .ring-point2 .ensures) (at-ring-point3 .ring-point3 .ensures) (c .before .before .toward .ensures) (c .before .toward2 .ensures) (c .sharp-between .ensures)
 
 pub sharp-corner-spec : {M : Type 1} → statement M
 sharp-corner-spec =

@@ -18,10 +18,14 @@ signed-area-requires : tie.Need-signed-area-requires
 signed-area-requires c κs = search needs
 
 returns : tie.Need-returns
-returns c = rw (rw (zero-is, c .before .signed-area .ensures) at (c .if1 .taken)) (positive (c .before .before .before .args .ccw))
+returns c =
+    let entry : tie.Start = search in
+    rw (rw (zero-is, c .before .signed-area .ensures) at (c .if1 .taken)) (positive (entry .args .ccw))
 
 returns-2 : tie.Need-returns-2
-returns-2 c = rw (rw (zero-is, c .before .signed-area .ensures) at (c .if1 .left)) (other (c .before .before .before .args .ccw))
+returns-2 c =
+    let entry : tie.Start = search in
+    rw (rw (zero-is, c .before .signed-area .ensures) at (c .if1 .left)) (other (entry .args .ccw))
 
 pub turns-spec : {M : Type 1} → statement M
 turns-spec = tie.close (tie.spec signed-area-requires returns returns-2)

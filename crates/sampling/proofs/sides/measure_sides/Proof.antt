@@ -21,8 +21,9 @@ same-length-2 c = search needs
 
 returns : tie.Need-returns
 returns c =
-    let start = c .before .before .before .before .before .before .before .before .before .before .before .before .before .before in
-    let square-sides = c .before .before .before .before .before .before .before .before .square-sides in
+    let at-square-sides : tie.After-square-sides = search in
+    let start : tie.Start = search in
+    let square-sides = at-square-sides .square-sides in
     let r = turnedIf (start .args .back) (ringOf (start .args .pts .now) (start .args .n)) in
     record {
       sizeIs = refl;

@@ -31,20 +31,24 @@ abbrev μ-loop : tie.MeasureT-loop
 μ-loop pts n back h options squares₀ margins₀ b₀ d₀ i₀ squares margins b d i = n - i
 
 ring-point-requires : tie.Need-ring-point-requires Inv-loop μ-loop
-ring-point-requires c κs = (c .before .before .before .pre .0, c .before .before .before .pre .1)
+ring-point-requires c κs =
+    let entry : tie.Start Inv-loop μ-loop = search in
+    (entry .pre .0, entry .pre .1)
 
 sub-ring-point : tie.Need-sub-ring-point Inv-loop μ-loop
 sub-ring-point c = omega arith
 
 ring-point-requires-2 : tie.Need-ring-point-requires-2 Inv-loop μ-loop
-ring-point-requires-2 c κs = (c .before .before .before .before .pre .0, omega arith)
+ring-point-requires-2 c κs =
+    let entry : tie.Start Inv-loop μ-loop = search in
+    (entry .pre .0, omega arith)
 
 toward-requires : tie.Need-toward-requires Inv-loop μ-loop
 toward-requires c κs = search needs
 
 loop-holds : tie.Need-loop-holds Inv-loop μ-loop
 loop-holds c =
-    let start = c .before .before .before .before .before .before in (
+    let start : tie.Start Inv-loop μ-loop = search in (
       omega arith,
       refl,
       refl,
@@ -58,7 +62,9 @@ next-of-requires : tie.Need-next-of-requires Inv-loop μ-loop
 next-of-requires c κs = omega arith
 
 ring-point-requires-3 : tie.Need-ring-point-requires-3 Inv-loop μ-loop
-ring-point-requires-3 c κs = (c .before .before .before .before .before .before .before .before .before .pre .0, c .next-of .ensures .1)
+ring-point-requires-3 c κs =
+    let entry : tie.Start Inv-loop μ-loop = search in
+    (entry .pre .0, c .next-of .ensures .1)
 
 toward-requires-2 : tie.Need-toward-requires-2 Inv-loop μ-loop
 toward-requires-2 c κs = search needs
@@ -70,42 +76,62 @@ taken-requires : tie.Need-taken-requires Inv-loop μ-loop
 taken-requires c κs = search needs
 
 mul-margins : tie.Need-mul-margins Inv-loop μ-loop
-mul-margins c = scaled-fits (c .before .before .before .before .before .before .loop .i) (length (c .before .before .before .before .before .before .before .before .before .before .before .before .before .args .margins .now)) 8 (omega arith) (c .before .before .before .before .before .before .before .before .before .before .before .before .before .good .1 .1 .1 .1 .1 .1 .0 .1)
+mul-margins c =
+    let at-loop : tie.At-loop Inv-loop μ-loop = search in
+    let entry : tie.Start Inv-loop μ-loop = search in
+    scaled-fits (at-loop .loop .i) (length (entry .args .margins .now)) 8 (omega arith) (entry .good .1 .1 .1 .1 .1 .1 .0 .1)
 
 slice-write-margins : tie.Need-slice-write-margins Inv-loop μ-loop
 slice-write-margins c = omega arith
 
 mul-squares : tie.Need-mul-squares Inv-loop μ-loop
-mul-squares c = scaled-fits (c .before .before .before .before .before .before .before .before .loop .i) (length (c .before .before .before .before .before .before .before .before .before .before .before .before .before .before .before .args .squares .now)) 8 (omega (arith, c .before .before .before .before .before .before .before .before .loop .inv .1, c .before .before .before .before .before .before .before .loop-test .taken, c .before .before .before .before .before .before .before .before .before .before .before .before .before .before .before .pre .2)) (c .before .before .before .before .before .before .before .before .before .before .before .before .before .before .before .good .1 .1 .1 .1 .1 .0 .1)
+mul-squares c =
+    let at-loop-test : tie.In-loop Inv-loop μ-loop = search in
+    let at-loop : tie.At-loop Inv-loop μ-loop = search in
+    let entry : tie.Start Inv-loop μ-loop = search in
+    scaled-fits (at-loop .loop .i) (length (entry .args .squares .now)) 8 (omega (arith, at-loop .loop .inv .1, at-loop-test .loop-test .taken, entry .pre .2)) (entry .good .1 .1 .1 .1 .1 .0 .1)
 
 slice-write-squares : tie.Need-slice-write-squares Inv-loop μ-loop
-slice-write-squares c = omega (arith, c .before .before .before .before .before .before .before .before .loop .inv .1, c .before .before .before .before .before .before .before .loop-test .taken, c .before .before .before .before .before .before .before .before .before .before .before .before .before .before .before .pre .2)
+slice-write-squares c =
+    let at-loop-test : tie.In-loop Inv-loop μ-loop = search in
+    let at-loop : tie.At-loop Inv-loop μ-loop = search in
+    let entry : tie.Start Inv-loop μ-loop = search in
+    omega (arith, at-loop .loop .inv .1, at-loop-test .loop-test .taken, entry .pre .2)
 
 add-i : tie.Need-add-i Inv-loop μ-loop
-add-i c = omega (arith, c .before .before .before .before .before .before .before .loop-test .taken, c .before .before .before .before .before .before .before .before .before .before .before .before .before .before .before .good .1 .0)
+add-i c =
+    let at-loop-test : tie.In-loop Inv-loop μ-loop = search in
+    let entry : tie.Start Inv-loop μ-loop = search in
+    omega (arith, at-loop-test .loop-test .taken, entry .good .1 .0)
 
 loop-less : tie.Need-loop-less Inv-loop μ-loop
 loop-less c = omega arith
 
 loop-again : tie.Need-loop-again Inv-loop μ-loop
 loop-again c =
-    let start = c .before .before .before .before .before .before .before .before .before .before .before .before .before .before .before in
-    let l = c .before .before .before .before .before .before .before .before .loop in
-    let more = c .before .before .before .before .before .before .before .loop-test .taken in
-    let next-of = c .before .before .before .before .before .before .next-of in
+    let at-sharp-between : tie.After-sharp-between Inv-loop μ-loop = search in
+    let at-toward2 : tie.After-toward2 Inv-loop μ-loop = search in
+    let at-ring-point3 : tie.After-ring-point3 Inv-loop μ-loop = search in
+    let at-next-of : tie.After-next-of Inv-loop μ-loop = search in
+    let at-loop-test : tie.In-loop Inv-loop μ-loop = search in
+    let at-loop : tie.At-loop Inv-loop μ-loop = search in
+    let start = (at-loop .before .before .before .before .before .before .before) in
+    let l = at-loop .loop in
+    let more = at-loop-test .loop-test .taken in
+    let next-of = at-next-of .next-of in
     let h = start .args .h in
     let o = start .args .options in
     let r = turnedIf (start .args .back) (ringOf (start .args .pts .now) (start .args .n)) in
-    let e = c .before .before .before .before .toward2 in
-    let side = square-is h o r (l .i) _ _ _ (l .d) _ more (next-of .ensures .0) (l .inv .3) (l .inv .4) (c .before .before .before .before .before .ring-point3 .ensures) (e .ensures) in
-    let sharp = sharp-is h o r (l .i) _ _ _ (l .d) _ more (next-of .ensures .0) (l .inv .3) (l .inv .4) (c .before .before .before .before .before .ring-point3 .ensures) (e .ensures) _ (c .before .before .before .sharp-between .ensures) in
+    let e = at-toward2 .toward2 in
+    let side = square-is h o r (l .i) _ _ _ (l .d) _ more (next-of .ensures .0) (l .inv .3) (l .inv .4) (at-ring-point3 .ring-point3 .ensures) (e .ensures) in
+    let sharp = sharp-is h o r (l .i) _ _ _ (l .d) _ more (next-of .ensures .0) (l .inv .3) (l .inv .4) (at-ring-point3 .ring-point3 .ensures) (e .ensures) _ (at-sharp-between .sharp-between .ensures) in
     let room : l .i < length (l .squares) = omega (arith, l .inv .1, more, start .pre .2) in
     let room2 : l .i < length (l .margins) = omega (arith, l .inv .2, more, start .pre .3) in (
       omega arith,
       simp length-set (l .inv .1),
       simp length-set (l .inv .2),
-      rw (next-of .ensures .0) at (c .before .before .before .before .before .ring-point3 .ensures),
-      next-side h o r (l .i) _ _ _ (l .d) _ more (next-of .ensures .0) (l .inv .3) (l .inv .4) (c .before .before .before .before .before .ring-point3 .ensures) (e .ensures),
+      rw (next-of .ensures .0) at (at-ring-point3 .ring-point3 .ensures),
+      next-side h o r (l .i) _ _ _ (l .d) _ more (next-of .ensures .0) (l .inv .3) (l .inv .4) (at-ring-point3 .ring-point3 .ensures) (e .ensures),
       table-step (l .squares) nan (λ (k : ℕ). square (along r k)) (l .i) _ room (l .inv .5) side,
       table-step (l .margins) nan (loops.margin h o r) (l .i) _ room2 (l .inv .6) (margin-is h o r (l .i) _ _ sharp (c .before .before .taken .ensures)),
     )
@@ -118,8 +144,9 @@ same-length-2 c = c .before .loop .inv .2
 
 returns : tie.Need-returns Inv-loop μ-loop
 returns c =
+    let entry : tie.Start Inv-loop μ-loop = search in
     let l = c .before .loop in
-    let e : l .i ≡ c .before .before .before .before .before .before .before .before .args .n = omega arith in
+    let e : l .i ≡ entry .args .n = omega arith in
     (rw e at (l .inv .5), rw e at (l .inv .6))
 
 pub square-sides-spec : {M : Type 1} → statement M

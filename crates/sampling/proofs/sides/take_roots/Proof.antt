@@ -22,7 +22,9 @@ loop-holds : tie.Need-loop-holds Inv-loop μ-loop
 loop-holds c = (omega arith, refl, λ k q l. refl, λ k q. absurd (not-suc-le-zero q))
 
 mul-root : tie.Need-mul-root Inv-loop μ-loop
-mul-root c = scaled-fits (c .before .loop .i) (length (c .before .before .before .args .s .now)) 8 (omega arith) (c .before .before .before .good .0 .1)
+mul-root c =
+    let entry : tie.Start Inv-loop μ-loop = search in
+    scaled-fits (c .before .loop .i) (length (entry .args .s .now)) 8 (omega arith) (entry .good .0 .1)
 
 slice-read-root : tie.Need-slice-read-root Inv-loop μ-loop
 slice-read-root c = omega arith
@@ -31,7 +33,10 @@ root-requires : tie.Need-root-requires Inv-loop μ-loop
 root-requires c κs = search needs
 
 mul-s : tie.Need-mul-s Inv-loop μ-loop
-mul-s c = scaled-fits (c .before .before .before .loop .i) (length (c .before .before .before .before .before .args .s .now)) 8 (omega arith) (c .before .before .before .before .before .good .0 .1)
+mul-s c =
+    let at-loop : tie.At-loop Inv-loop μ-loop = search in
+    let entry : tie.Start Inv-loop μ-loop = search in
+    scaled-fits (at-loop .loop .i) (length (entry .args .s .now)) 8 (omega arith) (entry .good .0 .1)
 
 slice-write-s : tie.Need-slice-write-s Inv-loop μ-loop
 slice-write-s c = omega arith
@@ -44,9 +49,11 @@ loop-less c = omega arith
 
 loop-again : tie.Need-loop-again Inv-loop μ-loop
 loop-again c =
-    let l = c .before .before .before .loop in
-    let s₀ = c .before .before .before .before .before .args .s .now in
-    let room : l .i < length (l .s) = omega (arith, l .inv .1, c .before .before .loop-test .taken, c .before .before .before .before .before .pre) in (
+    let at-loop : tie.At-loop Inv-loop μ-loop = search in
+    let entry : tie.Start Inv-loop μ-loop = search in
+    let l = at-loop .loop in
+    let s₀ = entry .args .s .now in
+    let room : l .i < length (l .s) = omega (arith, l .inv .1, c .before .before .loop-test .taken, entry .pre) in (
       omega arith,
       simp length-set (l .inv .1),
       table-rest (l .s) nan (λ (k : ℕ). getD s₀ k nan) (l .i) _ _ (l .inv .2),
@@ -58,8 +65,9 @@ same-length c = c .before .loop .inv .1
 
 returns : tie.Need-returns Inv-loop μ-loop
 returns c =
+    let entry : tie.Start Inv-loop μ-loop = search in
     let l = c .before .loop in
-    let e : l .i ≡ c .before .before .before .args .n = omega arith in
+    let e : l .i ≡ entry .args .n = omega arith in
     rw e at (l .inv .3)
 
 pub take-roots-spec : {M : Type 1} → statement M
