@@ -2,12 +2,12 @@
 ghost use mathlib.Core.Path.{_≡_};
 ghost use Prim.Native.Nat.{ℕ, _*_, _+_, _<_, _≤_};
 ghost use lib.ListN.{getD, length};
-ghost use Rattle.geometry.specs.Domain.{pairs, rings};
+ghost use Rattle.geometry.specs.Domain.{sumOf, rings};
 ghost use Rattle.candidate.specs.Candidate.{allClearOf, allInside, allOffBoundary};
 
 // Every new point is in the domain.
 pub fn all_inside(coords: &[f64], loops: &[u16], row: &[f64], n: usize) -> bool
-    requires { ⌜ (n * 2 ≤ length (now row)) × (pairs (now loops) * 2 ≤ length (now coords)) ⌝ }
+    requires { ⌜ (n * 2 ≤ length (now row)) × (sumOf (now loops) * 2 ≤ length (now coords)) ⌝ }
     ensures { λ r. ⌜ r ≡ allInside (rings (now (coords .entry)) (now (loops .entry))) (now (row .entry)) n ⌝ }
 {
     for i in 0..n {
@@ -21,7 +21,7 @@ pub fn all_inside(coords: &[f64], loops: &[u16], row: &[f64], n: usize) -> bool
 
 // No new point is nearer than `least` to the boundary.
 pub fn all_off_boundary(coords: &[f64], loops: &[u16], row: &[f64], n: usize, least: f64) -> bool
-    requires { ⌜ (n * 2 ≤ length (now row)) × (pairs (now loops) * 2 ≤ length (now coords)) ⌝ }
+    requires { ⌜ (n * 2 ≤ length (now row)) × (sumOf (now loops) * 2 ≤ length (now coords)) ⌝ }
     ensures { λ r. ⌜ r ≡ allOffBoundary (rings (now (coords .entry)) (now (loops .entry))) least (now (row .entry)) n ⌝ }
 {
     for i in 0..n {

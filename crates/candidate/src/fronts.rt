@@ -3,7 +3,7 @@ ghost use mathlib.Core.Path.{_≡_};
 ghost use mathlib.Core.Bool.{_||_};
 ghost use Prim.Native.Nat.{ℕ, _*_, _+_, _<_, _≤_};
 ghost use lib.ListN.{drop, getD, length, take};
-ghost use Rattle.geometry.specs.Domain.{pairs};
+ghost use Rattle.geometry.specs.Domain.{sumOf};
 ghost use Rattle.sampling.specs.State.{cut};
 ghost use Rattle.candidate.specs.Candidate.{allClearOf, allClearOfFronts};
 use crate::Front;
@@ -13,7 +13,7 @@ use geometry::wide;
 // The place of front `li` among the nodes of all fronts.
 pub fn front_at(lengths: &[u16], li: usize) -> Front
     requires { ⌜ (li < length (now lengths)) × (length (now lengths) ≤ 16) ⌝ }
-    ensures { λ r. ⌜ (r .start ≡ pairs (take li (now (lengths .entry)))) × (r .len ≡ getD (now (lengths .entry)) li 0) ⌝ }
+    ensures { λ r. ⌜ (r .start ≡ sumOf (take li (now (lengths .entry)))) × (r .len ≡ getD (now (lengths .entry)) li 0) ⌝ }
 {
     let start = sampling::pairs_of(&lengths[..li]);
     let len = wide(lengths[li]);
@@ -52,8 +52,8 @@ pub fn clear_of_fronts(
     least: f64,
 ) -> bool
     requires { ⌜ n * 2 ≤ length (now row) ⌝ }
-    requires { ⌜ pairs (now lengths) ≤ length (now «front_nodes») ⌝ }
-    requires { ⌜ ((i : ℕ) → i < pairs (now lengths) → getD (now «front_nodes») i 0 * 2 + 1 < length (now points)) ⌝ }
+    requires { ⌜ sumOf (now lengths) ≤ length (now «front_nodes») ⌝ }
+    requires { ⌜ ((i : ℕ) → i < sumOf (now lengths) → getD (now «front_nodes») i 0 * 2 + 1 < length (now points)) ⌝ }
     ensures { λ r. ⌜ r ≡ allClearOfFronts (now (points .entry)) (cut (now (lengths .entry)) (now («front_nodes» .entry))) li least (now (row .entry)) n ⌝ }
 {
     let mut start = 0usize;

@@ -7,7 +7,7 @@ ghost use lib.ListN.{getD, length, take};
 ghost use Rattle.geometry.specs.Rings.{nodeRing};
 ghost use Rattle.paving.specs.Row.{newPoints};
 ghost use Rattle.candidate.specs.Candidate.{allProject, restStands, rowNumber};
-ghost use Rattle.geometry.specs.Domain.{pairs};
+ghost use Rattle.geometry.specs.Domain.{sumOf};
 ghost use Rattle.sampling.specs.State.{cut};
 ghost use Rattle.sampling.specs.Call.{job};
 use crate::Front;
@@ -64,9 +64,9 @@ fn rest_stands(
     front: Front,
     row: &[f64],
 ) -> bool
-    requires { ⌜ (li < length (now lengths)) × (front .start ≡ pairs (take li (now lengths))) × (front .len ≡ getD (now lengths) li 0) × (0 < front .len) × (front .len * 2 ≤ length (now row)) ⌝ }
-    requires { ⌜ (pairs (now «loop_lengths») * 2 ≤ length (now coords)) × (pairs (now lengths) ≤ length (now «front_nodes»)) ⌝ }
-    requires { ⌜ ((i : ℕ) → i < pairs (now lengths) → getD (now «front_nodes») i 0 * 2 + 1 < length (now points)) ⌝ }
+    requires { ⌜ (li < length (now lengths)) × (front .start ≡ sumOf (take li (now lengths))) × (front .len ≡ getD (now lengths) li 0) × (0 < front .len) × (front .len * 2 ≤ length (now row)) ⌝ }
+    requires { ⌜ (sumOf (now «loop_lengths») * 2 ≤ length (now coords)) × (sumOf (now lengths) ≤ length (now «front_nodes»)) ⌝ }
+    requires { ⌜ ((i : ℕ) → i < sumOf (now lengths) → getD (now «front_nodes») i 0 * 2 + 1 < length (now points)) ⌝ }
     ensures { λ r. ⌜ r ≡ restStands (job (now (coords .entry)) (now («loop_lengths» .entry)) h options) (now (points .entry)) (cut (now (lengths .entry)) (now («front_nodes» .entry))) li (now (row .entry)) ⌝ }
 {
     let start = front.start;
@@ -109,8 +109,8 @@ pub fn row_number(
     row: &mut [f64],
 ) -> u32
     requires { ⌜ (li < length (now lengths)) × (length (now lengths) ≤ 16) × (quads ≤ 4096) ⌝ }
-    requires { ⌜ (pairs (now «loop_lengths») * 2 ≤ length (now coords)) × (pairs (now lengths) ≤ length (now «front_nodes»)) × (getD (now lengths) li 0 * 2 ≤ length (now row)) ⌝ }
-    requires { ⌜ ((i : ℕ) → i < pairs (now lengths) → getD (now «front_nodes») i 0 * 2 + 1 < length (now points)) ⌝ }
+    requires { ⌜ (sumOf (now «loop_lengths») * 2 ≤ length (now coords)) × (sumOf (now lengths) ≤ length (now «front_nodes»)) × (getD (now lengths) li 0 * 2 ≤ length (now row)) ⌝ }
+    requires { ⌜ ((i : ℕ) → i < sumOf (now lengths) → getD (now «front_nodes») i 0 * 2 + 1 < length (now points)) ⌝ }
     ensures { λ r. ⌜ r ≡ rowNumber (job (now (coords .entry)) (now («loop_lengths» .entry)) h options) (now (points .entry)) (cut (now (lengths .entry)) (now («front_nodes» .entry))) quads li ⌝ }
     ensures { λ r. ⌜ (r ≡ 0 → take (getD (now (lengths .entry)) li 0 * 2) (now (row .exit)) ≡ newPoints (nodeRing (now (points .entry)) (getD (cut (now (lengths .entry)) (now («front_nodes» .entry))) li [])) h (getD (now (lengths .entry)) li 0)) ⌝ }
 {

@@ -13,7 +13,7 @@ use borrow.Author.Tests.{le-leb, lt-leb, leb-true, leb-false}
 use Rattle.geometry.specs.declared.Point.{Point}
 use Rattle.geometry.specs.Rings.{Ring, ringOf}
 use Rattle.geometry.specs.Measures.{inPolygon, signedArea}
-use Rattle.geometry.specs.Domain.{pairs, rings, holesArea, domainArea, inSome, contains}
+use Rattle.geometry.specs.Domain.{sumOf, rings, holesArea, domainArea, inSome, contains}
 use Rattle.geometry.proofs.Literals.{zero-is}
 use Rattle.exports.specs.Outline.{loopsFit}
 
@@ -22,30 +22,30 @@ same-test a b c d true e f g = le-leb c d (f (leb-true a b e))
 same-test a b c d false e f g = lt-leb c d (g (leb-false a b e))
 
 -- what is tested still, once k loops are passed
-pub fit-first : (coords : List Float) (loops : List ℕ) → loopsFit coords loops ≡ leb (pairs (drop 0 loops)) (length coords / 2)
+pub fit-first : (coords : List Float) (loops : List ℕ) → loopsFit coords loops ≡ leb (sumOf (drop 0 loops)) (length coords / 2)
 unfolding loopsFit
-fit-first coords loops = same-test (pairs loops) (length coords / 2) (pairs loops * 2) (length coords) _ refl (λ h. omega arith) (λ h. omega arith)
+fit-first coords loops = same-test (sumOf loops) (length coords / 2) (sumOf loops * 2) (length coords) _ refl (λ h. omega arith) (λ h. omega arith)
 
 module _ (loops : List ℕ) (left k n : ℕ) (some : k < length loops) (hn : n ≡ getD loops k 0) where
   one-less : drop k loops ≡ n ∷ drop (k + 1) loops
   one-less = rw (add-one, hn) (drop-cons loops k 0 some)
 
-  pairs-ahead : pairs (drop k loops) ≡ n + pairs (drop (k + 1) loops)
-  unfolding pairs
-  pairs-ahead = ap pairs one-less
+  pairs-ahead : sumOf (drop k loops) ≡ n + sumOf (drop (k + 1) loops)
+  unfolding sumOf
+  pairs-ahead = ap sumOf one-less
 
-  pub fit-here : (t : Bool) → t ≡ leb (pairs (drop k loops)) left → left < n → false ≡ t
-  fit-here t e h = sym (e ∙ lt-leb (pairs (drop k loops)) left (omega (arith, pairs-ahead)))
+  pub fit-here : (t : Bool) → t ≡ leb (sumOf (drop k loops)) left → left < n → false ≡ t
+  fit-here t e h = sym (e ∙ lt-leb (sumOf (drop k loops)) left (omega (arith, pairs-ahead)))
 
-  pub fit-next : (t : Bool) → t ≡ leb (pairs (drop k loops)) left → n ≤ left → t ≡ leb (pairs (drop (k + 1) loops)) (left - n)
-  fit-next t e h = sym (same-test (pairs (drop k loops)) left (pairs (drop (k + 1) loops)) (left - n) t (sym e) (λ g. omega (arith, pairs-ahead)) (λ g. omega (arith, pairs-ahead)))
+  pub fit-next : (t : Bool) → t ≡ leb (sumOf (drop k loops)) left → n ≤ left → t ≡ leb (sumOf (drop (k + 1) loops)) (left - n)
+  fit-next t e h = sym (same-test (sumOf (drop k loops)) left (sumOf (drop (k + 1) loops)) (left - n) t (sym e) (λ g. omega (arith, pairs-ahead)) (λ g. omega (arith, pairs-ahead)))
 
-pub fit-end : (loops : List ℕ) (left k : ℕ) (t : Bool) → length loops ≤ k → t ≡ leb (pairs (drop k loops)) left → true ≡ t
-unfolding pairs
+pub fit-end : (loops : List ℕ) (left k : ℕ) (t : Bool) → length loops ≤ k → t ≡ leb (sumOf (drop k loops)) left → true ≡ t
+unfolding sumOf
 fit-end loops left k t h e = sym (e ∙ rw (drop-of-length-le loops h) (le-leb 0 left (omega arith)))
 
 -- a call's requirement, from the test
-pub room : (coords : List Float) (loops : List ℕ) (t : Bool) → t ≡ loopsFit coords loops → t ≡ true → pairs loops * 2 ≤ length coords
+pub room : (coords : List Float) (loops : List ℕ) (t : Bool) → t ≡ loopsFit coords loops → t ≡ true → sumOf loops * 2 ≤ length coords
 unfolding loopsFit
 room coords loops t e h = leb-true _ _ (sym e ∙ h)
 
@@ -60,9 +60,9 @@ and-true true = refl
 and-true false = refl
 
 module _ (coords : List Float) (loops : List ℕ) {n : ℕ} (one : length loops ≡ 1) (hn : n ≡ getD loops 0 0) where
-  pairs-one : pairs loops ≡ n
-  unfolding pairs
-  pairs-one = let e : n + 0 ≡ n = omega arith in ap pairs (only loops n one hn) ∙ e
+  pairs-one : sumOf loops ≡ n
+  unfolding sumOf
+  pairs-one = let e : n + 0 ≡ n = omega arith in ap sumOf (only loops n one hn) ∙ e
 
   fit-one : loopsFit coords loops ≡ leb n (length coords / 2)
   fit-one = fit-first coords loops ∙ ap (λ (m : ℕ). leb m (length coords / 2)) pairs-one

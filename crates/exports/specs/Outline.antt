@@ -6,11 +6,11 @@ use lib.ListN.{length}
 use lib.Dec.{leb}
 use lib.Ieee.{Float, nan}
 use Rattle.geometry.specs.declared.Point.{Point}
-use Rattle.geometry.specs.Domain.{pairs, rings, domainArea, contains, distanceToBoundary}
+use Rattle.geometry.specs.Domain.{sumOf, rings, domainArea, contains, distanceToBoundary}
 
 -- whether the coordinates have points for loops of these lengths
 unfoldable pub loopsFit : List Float → List ℕ → Bool
-loopsFit coords loops = leb (pairs loops * 2) (length coords)
+loopsFit coords loops = leb (sumOf loops * 2) (length coords)
 
 unfoldable pub areaOr : List Float → List ℕ → Float
 areaOr coords loops = cond (loopsFit coords loops) (domainArea (rings coords loops)) nan

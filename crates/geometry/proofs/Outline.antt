@@ -12,7 +12,7 @@ use Rattle.float.specs.Helpers.{absolute, decimal}
 use Rattle.geometry.specs.declared.Point.{Point}
 use Rattle.geometry.specs.Rings.{Ring, ringOf}
 use Rattle.geometry.specs.Measures.{signedArea, inPolygon, shortInDomain}
-use Rattle.geometry.specs.Domain.{rings, pairs, holesArea, domainArea, inSome, contains}
+use Rattle.geometry.specs.Domain.{rings, sumOf, holesArea, domainArea, inSome, contains}
 use Rattle.geometry.specs.Squares.{leastSquare, leastFrom}
 
 -- what `&l[n..]` holds
@@ -21,7 +21,7 @@ whole-rest l n = take-all (length l - n) (drop n l) (omega (arith, length-drop n
 
 -- the points ahead are there
 pub record Room (coords : List Float) (loops : List ℕ) (from k : ℕ) : Type 0 where
-  pub there : (from + pairs (drop k loops)) * 2 ≤ length coords
+  pub there : (from + sumOf (drop k loops)) * 2 ≤ length coords
 
 abbrev pub ahead : List Float → List ℕ → ℕ → ℕ → List Ring
 ahead coords loops from k = rings (drop (from * 2) coords) (drop k loops)
@@ -30,9 +30,9 @@ module _ {coords : List Float} {loops : List ℕ} {from k n : ℕ} (room : Room 
   one-less : drop k loops ≡ n ∷ drop (k + 1) loops
   one-less = rw (add-one, hn) (drop-cons loops k 0 some)
 
-  pairs-ahead : pairs (drop k loops) ≡ n + pairs (drop (k + 1) loops)
-  unfolding pairs
-  pairs-ahead = ap pairs one-less
+  pairs-ahead : sumOf (drop k loops) ≡ n + sumOf (drop (k + 1) loops)
+  unfolding sumOf
+  pairs-ahead = ap sumOf one-less
 
   pub room-here : (from + n) * 2 ≤ length coords
   room-here = omega (arith, pairs-ahead)
@@ -77,7 +77,7 @@ module _ {coords : List Float} {loops : List ℕ} {from k n : ℕ} (room : Room 
     least-step p all best d h hd = h ∙ ap (leastFrom p best) ring-first ∙ rw hd
 
 -- nothing passed, and all loops passed
-pub room-all : (coords : List Float) (loops : List ℕ) → pairs loops * 2 ≤ length coords → Room coords loops 0 0
+pub room-all : (coords : List Float) (loops : List ℕ) → sumOf loops * 2 ≤ length coords → Room coords loops 0 0
 room-all coords loops h = record { there = omega arith }
 
 none-ahead : (coords : List Float) (loops : List ℕ) (from k : ℕ) → length loops ≤ k → ahead coords loops from k ≡ []
@@ -109,12 +109,12 @@ unfolding rings
 outline-first coords n [] some hn = absurd (omega arith)
 outline-first coords n (m ∷ ms) some hn = rw hn
 
-pairs-first : (n : ℕ) (loops : List ℕ) → 0 < length loops → n ≡ getD loops 0 0 → pairs loops ≡ n + pairs (drop 1 loops)
-unfolding pairs
+pairs-first : (n : ℕ) (loops : List ℕ) → 0 < length loops → n ≡ getD loops 0 0 → sumOf loops ≡ n + sumOf (drop 1 loops)
+unfolding sumOf
 pairs-first n [] some hn = absurd (omega arith)
 pairs-first n (m ∷ ms) some hn = rw hn
 
-module _ (coords : List Float) (loops : List ℕ) {n : ℕ} (hn : n ≡ getD loops 0 0) (left : length loops ≡ 0 → ⊥) (room : pairs loops * 2 ≤ length coords) where
+module _ (coords : List Float) (loops : List ℕ) {n : ℕ} (hn : n ≡ getD loops 0 0) (left : length loops ≡ 0 → ⊥) (room : sumOf loops * 2 ≤ length coords) where
   some : 0 < length loops
   some = omega (arith, left)
 
@@ -126,7 +126,7 @@ module _ (coords : List Float) (loops : List ℕ) {n : ℕ} (hn : n ≡ getD loo
   outside p t ht e = sym (ap (λ (rs : List Ring). contains rs p) (outline-first coords n loops some hn) ∙ rw (← ht, e))
 
   module _ {part : List Float} {holes : List ℕ} (hp : part ≡ drop (n * 2) coords) (hh : holes ≡ drop 1 loops) where
-    pub room-holes : pairs holes * 2 ≤ length part
+    pub room-holes : sumOf holes * 2 ≤ length part
     room-holes = rw (hp, hh) (simp length-drop (omega (arith, pairs-first n loops some hn)))
 
     behind-first : rings coords loops ≡ ringOf coords n ∷ rings part holes

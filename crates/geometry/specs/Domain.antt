@@ -16,9 +16,9 @@ rings coords [] = []
 rings coords (n ∷ ns) = ringOf coords n ∷ rings (drop (n * 2) coords) ns
 
 -- how many points loops of these lengths have
-unfoldable pub pairs : List ℕ → ℕ
-pairs [] = 0
-pairs (n ∷ ns) = n + pairs ns
+unfoldable pub sumOf : List ℕ → ℕ
+sumOf [] = 0
+sumOf (n ∷ ns) = n + sumOf ns
 
 -- the holes' areas by their absolute values, added up in order; Rust's sum of f64 starts from -0
 unfoldable pub holesArea : Float → List Ring → Float

@@ -37,7 +37,7 @@ fn holes(loops: &[u16]) -> &[u16]
 
 // The areas of some rings, by their absolute values, added up.
 fn holes_area(coords: &[f64], loops: &[u16]) -> f64
-    requires { ⌜ domain.pairs (now loops) * 2 ≤ length (now coords) ⌝ }
+    requires { ⌜ domain.sumOf (now loops) * 2 ≤ length (now coords) ⌝ }
     ensures { λ r. ⌜ r ≡ domain.holesArea (neg (decimal 0 0)) (domain.rings (now (coords .entry)) (now (loops .entry))) ⌝ }
 {
     let mut sum = -0.0;
@@ -54,7 +54,7 @@ fn holes_area(coords: &[f64], loops: &[u16]) -> f64
 
 // The area within the outer loop and outside the holes: positive where the outer loop is counter-clockwise.
 pub fn domain_area(coords: &[f64], loops: &[u16]) -> f64
-    requires { ⌜ domain.pairs (now loops) * 2 ≤ length (now coords) ⌝ }
+    requires { ⌜ domain.sumOf (now loops) * 2 ≤ length (now coords) ⌝ }
     ensures { λ r. ⌜ r ≡ domain.domainArea (domain.rings (now (coords .entry)) (now (loops .entry))) ⌝ }
 {
     if loops.len() == 0 {
@@ -66,7 +66,7 @@ pub fn domain_area(coords: &[f64], loops: &[u16]) -> f64
 
 // Whether `p` is within one of some rings.
 fn in_some(coords: &[f64], loops: &[u16], p: Point) -> bool
-    requires { ⌜ domain.pairs (now loops) * 2 ≤ length (now coords) ⌝ }
+    requires { ⌜ domain.sumOf (now loops) * 2 ≤ length (now coords) ⌝ }
     ensures { λ r. ⌜ r ≡ domain.inSome p (domain.rings (now (coords .entry)) (now (loops .entry))) ⌝ }
 {
     let mut from = 0usize;
@@ -84,7 +84,7 @@ fn in_some(coords: &[f64], loops: &[u16], p: Point) -> bool
 
 // Whether `p` is within the outer loop and outside every hole.
 pub fn contains(coords: &[f64], loops: &[u16], p: Point) -> bool
-    requires { ⌜ domain.pairs (now loops) * 2 ≤ length (now coords) ⌝ }
+    requires { ⌜ domain.sumOf (now loops) * 2 ≤ length (now coords) ⌝ }
     ensures { λ r. ⌜ r ≡ domain.contains (domain.rings (now (coords .entry)) (now (loops .entry))) p ⌝ }
 {
     if loops.len() == 0 {
@@ -116,7 +116,7 @@ fn least_square(p: Point, best: f64, pts: &[f64], n: usize) -> f64
 
 // The distance from `p` to the nearest side of the outline: the root of the least square.
 pub fn distance_to_boundary(coords: &[f64], loops: &[u16], p: Point) -> f64
-    requires { ⌜ domain.pairs (now loops) * 2 ≤ length (now coords) ⌝ }
+    requires { ⌜ domain.sumOf (now loops) * 2 ≤ length (now coords) ⌝ }
     ensures { λ r. ⌜ r ≡ domain.distanceToBoundary (domain.rings (now (coords .entry)) (now (loops .entry))) p ⌝ }
 {
     let mut least = 1.0 / 0.0;

@@ -6,7 +6,7 @@ use lib.ListN.{length, take}
 use lib.Dec.{eqb, leb, ltb}
 use lib.Ieee.{Float}
 use Rattle.float.specs.Helpers.{decimal}
-use Rattle.geometry.specs.Domain.{pairs}
+use Rattle.geometry.specs.Domain.{sumOf}
 use Rattle.sampling.specs.State.{State, Lent, quadNodes, joined, countAt, nodes, reading}
 use Rattle.sampling.specs.Job.{wrongCoordinate}
 
@@ -31,7 +31,7 @@ repeated (x ∷ xs) = member x xs || repeated xs
 unfoldable pub wrongCounts : Lent → Bool
 wrongCounts b =
     let sizes = take (countAt b 2) (b .frontLengths) in
-    ltb 4096 (countAt b 0) || ltb 4096 (countAt b 1) || ltb 16 (countAt b 2) || ltb 2048 (pairs sizes) || someBelow 3 sizes
+    ltb 4096 (countAt b 0) || ltb 4096 (countAt b 1) || ltb 16 (countAt b 2) || ltb 2048 (sumOf sizes) || someBelow 3 sizes
 
 -- a node number is not below the points; a front node is repeated, in one front or two; a coordinate is not finite or over 1,000,000,000;
 -- `row_quads` plus `core_quads` isn't the quads; laid exceeds the quads; or six times `row_rounds` exceeds `row_quads`

@@ -10,7 +10,7 @@ use Rattle.float.specs.Helpers.{decimal, absolute, lesser, greater, isFinite, r
 use Rattle.float.specs.Root.{root}
 use Rattle.geometry.specs.Rings.{Ring, pointAt, ringOf}
 use Rattle.geometry.specs.Measures.{sideLength, areaSum, signedArea, sharpAt, lengthSum, frontLength, quadArea, cornerValue, cornerPasses, cornersPass, leastCorner}
-use Rattle.geometry.specs.Domain.{rings, pairs, holesArea, domainArea}
+use Rattle.geometry.specs.Domain.{rings, sumOf, holesArea, domainArea}
 use Rattle.sampling.specs.declared.Options.{Options}
 use Rattle.sampling.specs.State.{State, Answer, Lengths, Quad, quad, quadNodes, joined, countsOf}
 use Rattle.sampling.specs.Job.{Job, Outcome, refused, gives, firstOf, wrongLengths, wrongShape, wrongSize, wrongOptions, wrongCoordinate, inputNumber}
@@ -143,5 +143,5 @@ all-agree [] = true
 all-agree (w ∷ ws) = sameList (w .computed) (w .stated) && all-agree ws
 
 plates-agree : all-agree rows ≡ true
-unfolding all-agree sameList bits seen jobSeen everything secondNode nodesOnly toBits ofBits ofInt add sub mul div round neg lt le isNan size absolute lesser greater isFinite roundAway clampUnit root sideLength areaSum signedArea sharpAt lengthSum frontLength quadArea cornerValue cornerPasses cornersPass leastCorner rings pairs holesArea domainArea joined firstOf wrongLengths wrongShape wrongSize wrongOptions wrongCoordinate inputNumber close kept unclosed turned loopRing margin span inner innerSum longest total planned parts innerPoint innerPoints placedOn placed sampleLoop numbered withLoop sampleFrom sampled project every quadPasses newPoints rowQuads rowStands committed nextRow inserted ordered passOrder rowsInOrder onePass somePasses turnedQuad leastOf closeFour firstHalf secondHalf bestSplit closure keptFronts closed closings andThen paved
+unfolding all-agree sameList bits seen jobSeen everything secondNode nodesOnly toBits ofBits ofInt add sub mul div round neg lt le isNan size absolute lesser greater isFinite roundAway clampUnit root sideLength areaSum signedArea sharpAt lengthSum frontLength quadArea cornerValue cornerPasses cornersPass leastCorner rings sumOf holesArea domainArea joined firstOf wrongLengths wrongShape wrongSize wrongOptions wrongCoordinate inputNumber close kept unclosed turned loopRing margin span inner innerSum longest total planned parts innerPoint innerPoints placedOn placed sampleLoop numbered withLoop sampleFrom sampled project every quadPasses newPoints rowQuads rowStands committed nextRow inserted ordered passOrder rowsInOrder onePass somePasses turnedQuad leastOf closeFour firstHalf secondHalf bestSplit closure keptFronts closed closings andThen paved
 plates-agree = refl

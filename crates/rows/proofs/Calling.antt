@@ -5,7 +5,7 @@ use Prim.Native.Nat.{ℕ, _*_, _<_, _≤_}
 use native.Mathlib.Omega.{arith}
 use borrow.Author.Tests.{eq-eqb, ne-eqb, le-leb, lt-leb}
 use lib.ListN.{length}
-use Rattle.geometry.specs.Domain.{pairs}
+use Rattle.geometry.specs.Domain.{sumOf}
 use Rattle.sampling.specs.State.{State, Lent, Answer, lengths, countAt, reading}
 use Rattle.sampling.specs.Job.{Job, Outcome, firstOf, inputNumber}
 use Rattle.sampling.specs.Call.{answer, lengthsOf}
@@ -22,7 +22,7 @@ right-lengths j b r e z =
     let s = accepted j (lengths b) (sym e ∙ z) in
     rw (s .points, s .quads, s .nodes, s .fronts, s .counts)
 
-pub outline-read : (j : Job) (b : Lent) (r : ℕ) → r ≡ inputNumber j (lengths b) → r ≡ 0 → pairs (j .loops) * 2 ≤ length (j .coords)
+pub outline-read : (j : Job) (b : Lent) (r : ℕ) → r ≡ inputNumber j (lengths b) → r ≡ 0 → sumOf (j .loops) * 2 ≤ length (j .coords)
 outline-read j b r e z = let h = accepted j (lengths b) (sym e ∙ z) .even in omega arith
 
 -- ---- a call on a given state, whatever its step

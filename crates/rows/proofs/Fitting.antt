@@ -11,7 +11,7 @@ use lib.Seq.{take-at, length-take-le, getD-take}
 use Rattle.candidate.proofs.Basics.{or-false, zero-one}
 use Rattle.float.specs.Helpers.{decimal}
 use Rattle.geometry.specs.Rings.{nodeRing}
-use Rattle.geometry.specs.Domain.{pairs}
+use Rattle.geometry.specs.Domain.{sumOf}
 use Rattle.sampling.specs.State.{State, Lent, Answer, countAt, quadNodes, joined, padded, nodes, written, reading}
 use Rattle.sampling.specs.Job.{Job, Outcome, refused, gives, firstOf, test}
 use Rattle.sampling.specs.Call.{answer}
@@ -42,8 +42,8 @@ pub record Fit (s : State) : Type 0 where
 padded-long : {A : Type 0} (n : ℕ) (z : A) (xs : List A) → length xs ≤ n → length (padded n z xs) ≡ n
 padded-long n z xs h = length-append xs (replicate (n - length xs) z) ∙ rw length-replicate (omega arith)
 
-pairs-lengths : (fs : List (List ℕ)) → pairs (map length fs) ≡ length (joined fs)
-unfolding pairs joined
+pairs-lengths : (fs : List (List ℕ)) → sumOf (map length fs) ≡ length (joined fs)
+unfolding sumOf joined
 pairs-lengths [] = refl
 pairs-lengths (f ∷ fs) = ap (λ k. length f + k) (pairs-lengths fs) ∙ sym (length-append f (joined fs))
 
@@ -52,7 +52,7 @@ module _ (s : State) (fit : Fit s) where
   unfolding written
   sizes-written = take-at (map length (s .fronts)) (replicate (16 - length (map length (s .fronts))) 0) (length (s .fronts)) (length-map (s .fronts) length)
 
-  total-written : pairs (sizesOf (written s)) ≡ length (joined (s .fronts))
+  total-written : sumOf (sizesOf (written s)) ≡ length (joined (s .fronts))
   total-written = rw sizes-written (pairs-lengths (s .fronts))
 
   below-written : (i : ℕ) → i < length (joined (s .fronts)) → getD (written s .frontNodes) i 0 < nodes s
@@ -179,13 +179,13 @@ module _ (b : Lent) (sound : Sound b) where
   abbrev counted : Counted b
   counted = sound-counted b sound
 
-  total-in : length (take (pairs (sizesOf b)) (b .frontNodes)) ≡ pairs (sizesOf b)
-  total-in = length-take-le (pairs (sizesOf b)) (b .frontNodes) (fits b counted)
+  total-in : length (take (sumOf (sizesOf b)) (b .frontNodes)) ≡ sumOf (sizesOf b)
+  total-in = length-take-le (sumOf (sizesOf b)) (b .frontNodes) (fits b counted)
 
-  nodes-below : someFrom (countAt b 0) (take (pairs (sizesOf b)) (b .frontNodes)) ≡ false
+  nodes-below : someFrom (countAt b 0) (take (sumOf (sizesOf b)) (b .frontNodes)) ≡ false
   nodes-below =
-      from-none (countAt b 0) (take (pairs (sizesOf b)) (b .frontNodes))
-      (λ i h. let g : i < pairs (sizesOf b) = rw total-in at h in rw (getD-take (pairs (sizesOf b)) (b .frontNodes) i 0 g) (sound .below i g))
+      from-none (countAt b 0) (take (sumOf (sizesOf b)) (b .frontNodes))
+      (λ i h. let g : i < sumOf (sizesOf b) = rw total-in at h in rw (getD-take (sumOf (sizesOf b)) (b .frontNodes) i 0 g) (sound .below i g))
 
   others-in : (reading b .rowQuads ≡ countAt b 3) × (reading b .rowRounds ≡ countAt b 5)
   unfolding reading

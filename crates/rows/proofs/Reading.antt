@@ -5,7 +5,7 @@ use Prim.Native.Nat.{ℕ, zero, suc, _*_, _≤_}
 use native.Mathlib.Omega.{arith}
 use lib.ListN.{length, take, drop}
 use lib.Seq.{length-take-le}
-use Rattle.geometry.specs.Domain.{pairs}
+use Rattle.geometry.specs.Domain.{sumOf}
 use Rattle.sampling.specs.State.{Lent, joined, quadsOf, countAt, nodes, reading}
 use Rattle.rows.specs.Sound.{Sound, sizesOf}
 use Rattle.candidate.proofs.Cutting.{joined-cut, length-cut, lengths-cut}
@@ -51,7 +51,7 @@ pub record Counted (b : Lent) : Type 0 where
   pub points : countAt b 0 ≤ 4096
   pub quads : countAt b 1 ≤ 4096
   pub fronts : countAt b 2 ≤ 16
-  pub frontNodes : pairs (sizesOf b) ≤ 2048
+  pub frontNodes : sumOf (sizesOf b) ≤ 2048
 
 pub sound-counted : (b : Lent) → Sound b → Counted b
 sound-counted b s = record {
@@ -70,7 +70,7 @@ module _ (b : Lent) (c : Counted b) where
   pub sizes-long : length (sizesOf b) ≡ countAt b 2
   sizes-long = let h = c .frontLengthsLong in let g = c .fronts in length-take-le (countAt b 2) (b .frontLengths) (omega arith)
 
-  pub fits : pairs (sizesOf b) ≤ length (b .frontNodes)
+  pub fits : sumOf (sizesOf b) ≤ length (b .frontNodes)
   fits = let h = c .frontNodesLong in let g = c .frontNodes in omega arith
 
   pub points-long : length (take (countAt b 0 * 2) (b .points)) ≡ countAt b 0 * 2
@@ -100,6 +100,6 @@ module _ (b : Lent) (c : Counted b) where
   unfolding reading
   quad-nodes-read = let h = c .quadsLong in let g = c .quads in numbers-quadsOf (countAt b 1) (b .quads) (omega arith)
 
-  pub front-nodes-read : joined (reading b .fronts) ≡ take (pairs (sizesOf b)) (b .frontNodes)
+  pub front-nodes-read : joined (reading b .fronts) ≡ take (sumOf (sizesOf b)) (b .frontNodes)
   unfolding reading
   front-nodes-read = joined-cut (sizesOf b) (b .frontNodes) fits

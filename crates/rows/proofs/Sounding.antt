@@ -9,7 +9,7 @@ use lib.Dec.{eqb, ltb}
 use lib.ListN.{length, getD, take}
 use lib.Seq.{length-take-le, getD-take}
 use Rattle.float.specs.Helpers.{decimal}
-use Rattle.geometry.specs.Domain.{pairs}
+use Rattle.geometry.specs.Domain.{sumOf}
 use Rattle.sampling.specs.State.{Lent, Lengths, lengths, countAt, reading}
 use Rattle.sampling.specs.Call.{lengthsOf}
 use Rattle.sampling.specs.Job.{wrongCoordinate}
@@ -80,7 +80,7 @@ module _ (b : Lent) (c : Counted b) where
   others-read = (refl, refl, refl, refl, refl)
 
   abbrev part-nodes : List ℕ
-  part-nodes = take (pairs (sizesOf b)) (b .frontNodes)
+  part-nodes = take (sumOf (sizesOf b)) (b .frontNodes)
 
   pub values-agree : wrongValues (reading b)
       ≡ (someFrom (countAt b 0) (take (countAt b 1 * 4) (b .quads) ++ part-nodes) || repeated part-nodes
@@ -124,7 +124,7 @@ sound b l w =
     let w1 = or-false (wrongCounts b) (wrongValues (reading b)) w in
     let c = counted b l (w1 .0) in
     let v = rw (values-agree b c) at (w1 .1) in
-    let total = pairs (sizesOf b) in
+    let total = sumOf (sizesOf b) in
     let A : Bool = someFrom (countAt b 0) (take (countAt b 1 * 4) (b .quads) ++ take total (b .frontNodes)) in
     let B : Bool = repeated (take total (b .frontNodes)) in
     let C : Bool = wrongCoordinate (decimal 1000000000 0) (take (countAt b 0 * 2) (b .points)) in

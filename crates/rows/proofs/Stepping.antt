@@ -9,7 +9,7 @@ use lib.Dec.{eqb, ltb}
 use lib.Ieee.{Float}
 use lib.ListN.{length, getD, take}
 use Rattle.geometry.specs.Rings.{Ring, nodeRing}
-use Rattle.geometry.specs.Domain.{pairs}
+use Rattle.geometry.specs.Domain.{sumOf}
 use Rattle.sampling.specs.State.{Lent, cut, countAt, nodes, reading, written}
 use Rattle.sampling.specs.Job.{Job, refused, gives, firstOf, test}
 use Rattle.sampling.specs.Call.{answer}
@@ -45,7 +45,7 @@ module _ (b : Lent) (sound : Sound b) where
   abbrev counted : Counted b
   counted = sound-counted b sound
 
-  pub read-below : (i : ℕ) → i < pairs (sizesOf b) → getD (b .frontNodes) i 0 * 2 + 1 < length (take (countAt b 0 * 2) (b .points))
+  pub read-below : (i : ℕ) → i < sumOf (sizesOf b) → getD (b .frontNodes) i 0 * 2 + 1 < length (take (countAt b 0 * 2) (b .points))
   read-below i l = let e = points-long b counted in let g = sound .below i l in omega arith
 
   module _ (li : ℕ) (hl : li < length (sizesOf b)) where

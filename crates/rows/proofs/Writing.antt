@@ -8,7 +8,7 @@ use lib.Ieee.{Float}
 use lib.ListN.{length, getD, take, drop, set, length-append, length-set, length-drop}
 use lib.Seq.{sets, sets-eq, length-sets, take-at, drop-at, length-take-le}
 use Rattle.float.specs.Helpers.{decimal}
-use Rattle.geometry.specs.Domain.{pairs}
+use Rattle.geometry.specs.Domain.{sumOf}
 use Rattle.sampling.specs.State.{Lent, cut, countAt, nodes, written, reading}
 use Rattle.sampling.specs.Call.{lent}
 use Rattle.sampling.specs.Sample.{numbered}
@@ -22,16 +22,16 @@ use Rattle.rows.proofs.Zeros.{same-lent, points-held, quads-held, nodes
 
 -- ---- a front replaced where it stands
 
-pub set-cut : (l xs ys : List ℕ) (k : ℕ) → k < length l → pairs l ≤ length xs → length ys ≡ getD l k 0 → set (cut l xs) k ys ≡ cut l (sets xs (pairs (take k l)) ys)
-unfolding cut pairs
+pub set-cut : (l xs ys : List ℕ) (k : ℕ) → k < length l → sumOf l ≤ length xs → length ys ≡ getD l k 0 → set (cut l xs) k ys ≡ cut l (sets xs (sumOf (take k l)) ys)
+unfolding cut sumOf
 set-cut [] xs ys k h f e = absurd (not-suc-le-zero h)
 set-cut (n ∷ l) xs ys zero h f e =
     let z : 0 + length ys ≡ n = zero-add (length ys) ∙ e in
-    let w : sets xs 0 ys ≡ ys ++ drop n xs = sets-eq ys xs 0 (rw z (le-trans (le-add-right n (pairs l)) f)) ∙ rw z in
+    let w : sets xs 0 ys ≡ ys ++ drop n xs = sets-eq ys xs 0 (rw z (le-trans (le-add-right n (sumOf l)) f)) ∙ rw z in
     ap₂ _∷_ (sym (rw w (take-at ys (drop n xs) n e))) (sym (ap (cut l) (rw w (drop-at ys (drop n xs) n e))))
 set-cut (n ∷ l) xs ys (suc k) h f e =
-    ap₂ _∷_ (sym (take-before ys xs n (pairs (take k l))))
-    (set-cut l (drop n xs) ys k (le-of-suc-le-suc h) (simp length-drop (omega arith)) e ∙ sym (ap (cut l) (drop-before ys xs n (pairs (take k l)))))
+    ap₂ _∷_ (sym (take-before ys xs n (sumOf (take k l))))
+    (set-cut l (drop n xs) ys k (le-of-suc-le-suc h) (simp length-drop (omega arith)) e ∙ sym (ap (cut l) (drop-before ys xs n (sumOf (take k l)))))
 
 -- ---- the whole of it
 
@@ -40,10 +40,10 @@ module _ (b : Lent) (sound : Sound b) (clean : Clean b) (li n : ℕ) (row : List
   counted = sound-counted b sound
 
   abbrev start : ℕ
-  start = pairs (take li (sizesOf b))
+  start = sumOf (take li (sizesOf b))
 
   abbrev total : ℕ
-  total = pairs (sizesOf b)
+  total = sumOf (sizesOf b)
 
   old-length : n ≡ length (front (reading b) li)
   unfolding reading

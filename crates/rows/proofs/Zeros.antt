@@ -7,7 +7,7 @@ use lib.Ieee.{Float}
 use lib.ListN.{length, getD, take, drop, replicate, drop-of-length-le}
 use lib.Seq.{drop-cons, length-take-le}
 use Rattle.float.specs.Helpers.{decimal}
-use Rattle.geometry.specs.Domain.{pairs}
+use Rattle.geometry.specs.Domain.{sumOf}
 use Rattle.sampling.specs.State.{Lent, padded, countAt, written, reading}
 use Rattle.sampling.specs.Call.{lent}
 use Rattle.rows.specs.Sound.{Sound, Clean, Room, sizesOf}
@@ -42,7 +42,7 @@ module _ (b : Lent) (sound : Sound b) where
   unfolding written
   quads-held = ap (padded 16384 0) (quad-nodes-read b counted)
 
-  pub nodes-held : written (reading b) .frontNodes ≡ padded 2048 0 (take (pairs (sizesOf b)) (b .frontNodes))
+  pub nodes-held : written (reading b) .frontNodes ≡ padded 2048 0 (take (sumOf (sizesOf b)) (b .frontNodes))
   unfolding written
   nodes-held = ap (padded 2048 0) (front-nodes-read b counted)
 
@@ -64,7 +64,7 @@ module _ (b : Lent) (sound : Sound b) where
   pub cleared-is : {P : List Float} {Q N L : List ℕ}
       → P ≡ take (countAt b 0 * 2) (b .points) ++ replicate (length (b .points) - countAt b 0 * 2) (decimal 0 0)
       → Q ≡ take (countAt b 1 * 4) (b .quads) ++ replicate (length (b .quads) - countAt b 1 * 4) 0
-      → N ≡ take (pairs (sizesOf b)) (b .frontNodes) ++ replicate (length (b .frontNodes) - pairs (sizesOf b)) 0
+      → N ≡ take (sumOf (sizesOf b)) (b .frontNodes) ++ replicate (length (b .frontNodes) - sumOf (sizesOf b)) 0
       → L ≡ sizesOf b ++ replicate (length (b .frontLengths) - countAt b 2) 0
       → lent P Q N L (b .counts) ≡ written (reading b)
   cleared-is hP hQ hN hL =
@@ -73,7 +73,7 @@ module _ (b : Lent) (sound : Sound b) where
       same-lent
       (hP ∙ cleared-from (decimal 0 0) (b .points) 8192 (countAt b 0 * 2) (sound .pointsLong) (omega arith) ∙ sym points-held)
       (hQ ∙ cleared-from 0 (b .quads) 16384 (countAt b 1 * 4) (sound .quadsLong) (omega arith) ∙ sym quads-held)
-      (hN ∙ cleared-from 0 (b .frontNodes) 2048 (pairs (sizesOf b)) (sound .frontNodesLong) (sound .frontNodes) ∙ sym nodes-held)
+      (hN ∙ cleared-from 0 (b .frontNodes) 2048 (sumOf (sizesOf b)) (sound .frontNodesLong) (sound .frontNodes) ∙ sym nodes-held)
       (hL ∙ cleared-from 0 (b .frontLengths) 16 (countAt b 2) (sound .frontLengthsLong) (sound .fronts) ∙ sym lengths-held)
       counts-held
 

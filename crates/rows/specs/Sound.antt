@@ -4,7 +4,7 @@ use mathlib.Core.Path.{_≡_}
 use mathlib.Core.List.{List}
 use Prim.Native.Nat.{ℕ, _+_, _*_, _<_, _≤_}
 use lib.ListN.{length, getD, take}
-use Rattle.geometry.specs.Domain.{pairs}
+use Rattle.geometry.specs.Domain.{sumOf}
 use Rattle.sampling.specs.State.{Lent, countAt, written, reading}
 
 -- the lengths of the fronts, one after the other
@@ -20,8 +20,8 @@ pub record Sound (b : Lent) : Type 0 where
   pub points : countAt b 0 ≤ 4096
   pub quads : countAt b 1 ≤ 4096
   pub fronts : countAt b 2 ≤ 16
-  pub frontNodes : pairs (sizesOf b) ≤ 2048
-  pub below : (i : ℕ) → i < pairs (sizesOf b) → getD (b .frontNodes) i 0 < countAt b 0
+  pub frontNodes : sumOf (sizesOf b) ≤ 2048
+  pub below : (i : ℕ) → i < sumOf (sizesOf b) → getD (b .frontNodes) i 0 < countAt b 0
   pub rowQuads : countAt b 3 ≤ countAt b 1
   pub rowRounds : 6 * countAt b 5 ≤ countAt b 3
 

@@ -12,7 +12,7 @@ use lib.Seq.{sets, drop-cons, drop-drop, take-all}
 use lib.Ieee.{Float}
 use borrow.Author.Tests.{eq-eqb, ne-eqb}
 use Rattle.geometry.specs.Rings.{Ring, ringOf}
-use Rattle.geometry.specs.Domain.{rings, pairs}
+use Rattle.geometry.specs.Domain.{rings, sumOf}
 use Rattle.sampling.specs.declared.Options.{Options}
 use Rattle.sampling.specs.State.{State, joined}
 use Rattle.sampling.specs.Job.{Job, Outcome, refused, gives}
@@ -83,7 +83,7 @@ module _ (coords : List Float) (loops : List ℕ) (h : Float) (o : Options) (p�
     pub fronts : List (List ℕ)
     pub turn : k ≤ length loops
     pub to-come : sampleFrom h o before (eqb k 0) (ofLoops points fronts) (rings (drop first coords) (drop k loops)) ≡ sampled (job coords loops h o)
-    pub left : first + pairs (drop k loops) * 2 ≡ length coords
+    pub left : first + sumOf (drop k loops) * 2 ≡ length coords
     pub nodesIs : nodes * 2 ≡ length points
     pub fewer : nodes ≤ before
     pub within : before ≤ 2048
@@ -93,14 +93,14 @@ module _ (coords : List Float) (loops : List ℕ) (h : Float) (o : Options) (p�
     pub nodesAre : n ≡ sets n₀ 0 (joined fronts)
     pub lengthsAre : l ≡ sets l₀ 0 (map length fronts)
 
-  pub at-first : pairs loops * 2 ≡ length coords → Progress 0 0 0 0 p₀ n₀ l₀
+  pub at-first : sumOf loops * 2 ≡ length coords → Progress 0 0 0 0 p₀ n₀ l₀
   unfolding sampled joined
   at-first e = record {
     points = [];
     fronts = [];
     turn = omega arith;
     to-come = refl;
-    left = zero-add (pairs loops * 2) ∙ e;
+    left = zero-add (sumOf loops * 2) ∙ e;
     nodesIs = refl;
     fewer = omega arith;
     within = omega arith;
@@ -136,12 +136,12 @@ module _ {coords : List Float} {loops : List ℕ} {h : Float} {o : Options} {p�
     given = ringOf (drop first coords) m
 
     -- the loop to come, and those behind it
-    next-pairs : pairs (drop k loops) ≡ m + pairs (drop (k + 1) loops)
-    unfolding pairs
+    next-pairs : sumOf (drop k loops) ≡ m + sumOf (drop (k + 1) loops)
+    unfolding sumOf
     next-pairs = rw (add-one, drop-cons loops k 0 more, hm)
 
-    pub room-left : first + m * 2 + pairs (drop (k + 1) loops) * 2 ≡ length coords
-    room-left = sum first m (pairs (drop (k + 1) loops)) ∙ ap (λ (x : ℕ). first + x * 2) (sym next-pairs) ∙ sofar .left
+    pub room-left : first + m * 2 + sumOf (drop (k + 1) loops) * 2 ≡ length coords
+    room-left = sum first m (sumOf (drop (k + 1) loops)) ∙ ap (λ (x : ℕ). first + x * 2) (sym next-pairs) ∙ sofar .left
       where
         sum : (a b c : ℕ) → a + b * 2 + c * 2 ≡ a + (b + c) * 2
         sum a b c = omega arith

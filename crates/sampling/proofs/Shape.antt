@@ -6,7 +6,7 @@ use native.Mathlib.Omega.{arith}
 use lib.ListN.{length}
 use lib.Dec.{eqb, ltb}
 use borrow.Author.Tests.{eqb-true, eqb-false, ltb-false, not-false}
-use Rattle.geometry.specs.Domain.{pairs}
+use Rattle.geometry.specs.Domain.{sumOf}
 use Rattle.sampling.specs.State.{Lengths}
 use Rattle.sampling.specs.Job.{Job, firstOf, wrongLengths, wrongShape, inputNumber}
 
@@ -18,7 +18,7 @@ pub record Shaped (j : Job) (l : Lengths) : Type 0 where
   pub counts : l .counts ≡ 8
   pub some : 0 < length (j .loops)
   pub few : length (j .loops) ≤ 16
-  pub even : pairs (j .loops) * 2 ≡ length (j .coords)
+  pub even : sumOf (j .loops) * 2 ≡ length (j .coords)
   pub small : length (j .coords) ≤ 4096
 
 neither : (a b : Bool) → (a || b) ≡ false → (a ≡ false) × (b ≡ false)

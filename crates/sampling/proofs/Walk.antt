@@ -9,17 +9,17 @@ use lib.ListN.{length, getD, drop, drop-of-length-le}
 use lib.Seq.{drop-cons}
 use lib.Ieee.{Float, lt}
 use Rattle.float.specs.Helpers.{absolute, isFinite}
-use Rattle.geometry.specs.Domain.{pairs}
+use Rattle.geometry.specs.Domain.{sumOf}
 use Rattle.sampling.specs.Job.{wrongCoordinate}
 
 -- ---- the sum of the loop lengths
 
-pub pairs-step : (l : List ℕ) (i sum n : ℕ) → sum + pairs (drop i l) ≡ pairs l → n ≡ getD l i 0 → i < length l → sum + n + pairs (drop (i + 1) l) ≡ pairs l
-unfolding pairs
-pairs-step l i sum n e h k = add-assoc sum n (pairs (drop (i + 1) l)) ∙ rw (h, add-one) (rw (drop-cons l i 0 k) at e)
+pub pairs-step : (l : List ℕ) (i sum n : ℕ) → sum + sumOf (drop i l) ≡ sumOf l → n ≡ getD l i 0 → i < length l → sum + n + sumOf (drop (i + 1) l) ≡ sumOf l
+unfolding sumOf
+pairs-step l i sum n e h k = add-assoc sum n (sumOf (drop (i + 1) l)) ∙ rw (h, add-one) (rw (drop-cons l i 0 k) at e)
 
-pub pairs-end : (l : List ℕ) (i sum : ℕ) → sum + pairs (drop i l) ≡ pairs l → length l ≤ i → sum + 0 ≡ pairs l
-unfolding pairs
+pub pairs-end : (l : List ℕ) (i sum : ℕ) → sum + sumOf (drop i l) ≡ sumOf l → length l ≤ i → sum + 0 ≡ sumOf l
+unfolding sumOf
 pairs-end l i sum e h = rw (drop-of-length-le l h) at e
 
 -- ---- the coordinates

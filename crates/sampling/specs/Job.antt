@@ -6,7 +6,7 @@ use lib.ListN.{length, getD}
 use lib.Dec.{eqb, ltb}
 use lib.Ieee.{Float, lt, le}
 use Rattle.float.specs.Helpers.{decimal, absolute, isFinite}
-use Rattle.geometry.specs.Domain.{rings, domainArea, pairs}
+use Rattle.geometry.specs.Domain.{rings, domainArea, sumOf}
 use Rattle.sampling.specs.declared.Options.{Options}
 use Rattle.sampling.specs.State.{Lengths}
 
@@ -45,7 +45,7 @@ wrongLengths l =
 unfoldable pub wrongShape : Job → Lengths → Bool
 wrongShape j l =
     wrongLengths l || eqb (length (j .loops)) 0 || ltb 16 (length (j .loops)) || eqb (length (j .coords) % 2) 1
-    || not (eqb (pairs (j .loops)) (length (j .coords) / 2)) || ltb 2048 (length (j .coords) / 2)
+    || not (eqb (sumOf (j .loops)) (length (j .coords) / 2)) || ltb 2048 (length (j .coords) / 2)
 
 -- h is not finite, or not above 0
 unfoldable pub wrongSize : Float → Bool

@@ -3,7 +3,7 @@ ghost use mathlib.Core.Path.{_≡_};
 ghost use Prim.Native.Nat.{_+_, _*_, _≤_};
 ghost use lib.ListN.{length};
 ghost use lib.Seq.{sets};
-ghost use Rattle.geometry.specs.Domain.{pairs};
+ghost use Rattle.geometry.specs.Domain.{sumOf};
 ghost use Rattle.sampling.specs.Job as jobs;
 ghost use Rattle.sampling.specs.Sample as samples;
 ghost use Rattle.sampling.specs.Sampled as sampledLoops;
@@ -44,7 +44,7 @@ fn loops_in_turn(
     lengths: &mut [f64],
     spans: &mut [f64],
 ) -> Total
-    requires { ⌜ (pairs (now «loop_lengths») * 2 ≡ length (now coords)) × (length (now coords) ≤ 4096) × (length (now «loop_lengths») ≤ length (now «front_lengths»)) ⌝ }
+    requires { ⌜ (sumOf (now «loop_lengths») * 2 ≡ length (now coords)) × (length (now coords) ≤ 4096) × (length (now «loop_lengths») ≤ length (now «front_lengths»)) ⌝ }
     requires { ⌜ (4096 ≤ length (now points)) × (2048 ≤ length (now «front_nodes»)) ⌝ }
     requires { ⌜ (length (now coords) ≤ length (now buffer)) × (length (now coords) ≤ length (now lengths) * 2) × (length (now coords) ≤ length (now spans) * 2) ⌝ }
     ensures { λ r. ⌜ (r .number ≡ 0 → sampledLoops.Sampled (job (now (coords .entry)) (now («loop_lengths» .entry)) h options) (r .nodes) (now (points .entry)) (now (points .exit))
@@ -97,7 +97,7 @@ pub fn sample_loops(
     front_nodes: &mut [u16],
     front_lengths: &mut [u16],
 ) -> Total
-    requires { ⌜ (pairs (now «loop_lengths») * 2 ≡ length (now coords)) × (length (now coords) ≤ 4096) × (length (now «loop_lengths») ≤ length (now «front_lengths»)) ⌝ }
+    requires { ⌜ (sumOf (now «loop_lengths») * 2 ≡ length (now coords)) × (length (now coords) ≤ 4096) × (length (now «loop_lengths») ≤ length (now «front_lengths»)) ⌝ }
     requires { ⌜ (4096 ≤ length (now points)) × (2048 ≤ length (now «front_nodes»)) ⌝ }
     ensures { λ r. ⌜ (r .number ≡ 0 → sampledLoops.Sampled (job (now (coords .entry)) (now («loop_lengths» .entry)) h options) (r .nodes) (now (points .entry)) (now (points .exit))
         (now («front_nodes» .entry)) (now («front_nodes» .exit)) (now («front_lengths» .entry)) (now («front_lengths» .exit)))

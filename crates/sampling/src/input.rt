@@ -5,7 +5,7 @@ ghost use Prim.Native.Nat.{_≤_, _<_};
 ghost use lib.ListN.{length};
 ghost use lib.Ieee.{Float, lt};
 ghost use Rattle.float.specs.Helpers as helpers;
-ghost use Rattle.geometry.specs.Domain.{pairs};
+ghost use Rattle.geometry.specs.Domain.{sumOf};
 ghost use Rattle.sampling.specs.declared.Options as declared;
 ghost use Rattle.sampling.specs.Job as inputs;
 ghost use Rattle.sampling.specs.Call.{job, lengthsOf};
@@ -44,7 +44,7 @@ pub fn wide(n: u16) -> usize
 // The number of points of loops of these lengths, of which there are at most 16.
 pub fn pairs_of(loop_lengths: &[u16]) -> usize
     requires { ⌜ length (now «loop_lengths») ≤ 16 ⌝ }
-    ensures { λ r. ⌜ r ≡ pairs (now («loop_lengths» .entry)) ⌝ }
+    ensures { λ r. ⌜ r ≡ sumOf (now («loop_lengths» .entry)) ⌝ }
 {
     let mut sum = 0usize;
     let mut i = 0usize;

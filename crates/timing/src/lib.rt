@@ -2,7 +2,7 @@
 ghost use mathlib.Core.Path.{_≡_};
 ghost use Prim.Native.Nat.{_*_, _<_, _≤_};
 ghost use lib.ListN.{getD, length};
-ghost use Rattle.geometry.specs.Domain.{pairs};
+ghost use Rattle.geometry.specs.Domain.{sumOf};
 ghost use Rattle.sampling.specs.State.{reading};
 ghost use Rattle.sampling.specs.Call.{answer, job, lent};
 ghost use Rattle.paving.specs.Row.{nextRow};
@@ -32,7 +32,7 @@ pub extern "C" fn timing_next_row(
 ) -> u32
     requires { ⌜ Sound (lent (now points) (now quads) (now «front_nodes») (now «front_lengths») (now counts)) ⌝ }
     requires { ⌜ Clean (lent (now points) (now quads) (now «front_nodes») (now «front_lengths») (now counts)) ⌝ }
-    requires { ⌜ (front < getD (now counts) 2 0) × (pairs (now «loop_lengths») * 2 ≤ length (now coords)) ⌝ }
+    requires { ⌜ (front < getD (now counts) 2 0) × (sumOf (now «loop_lengths») * 2 ≤ length (now coords)) ⌝ }
     ensures { λ r. ⌜ answer r (lent (now (points .exit)) (now (quads .exit)) (now («front_nodes» .exit)) (now («front_lengths» .exit)) (now (counts .exit)))
         ≡ kept (lent (now (points .entry)) (now (quads .entry)) (now («front_nodes» .entry)) (now («front_lengths» .entry)) (now (counts .entry)))
         (nextRow (job (now (coords .entry)) (now («loop_lengths» .entry)) h

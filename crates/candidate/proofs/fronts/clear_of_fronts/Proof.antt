@@ -8,7 +8,7 @@ use borrow.Author.Needs.{needs}
 use borrow.Author.Tests.{not-true, not-false}
 use lib.Dec.{eqb}
 use lib.ListN.{length, take, getD}
-use Rattle.geometry.specs.Domain.{pairs}
+use Rattle.geometry.specs.Domain.{sumOf}
 use Rattle.sampling.specs.State.{cut}
 use Rattle.paving.specs.Row.{every}
 use Rattle.candidate.specs.Candidate.{allClearOf}
@@ -18,13 +18,13 @@ use Rattle.candidate.proofs.fronts.clear_of_fronts.Statement.{statement
 use Rattle.candidate.proofs.fronts.clear_of_fronts.Tie as tie
 
 abbrev Inv-loop : tie.InvT-loop
-Inv-loop points front-nodes lengths li row n least start₀ other₀ start other = (other ≤ length lengths) × (start ≡ pairs (take other lengths)) × (every (λ k. eqb k li || allClearOf points (getD (cut lengths front-nodes) k []) least row n) other ≡ true)
+Inv-loop points front-nodes lengths li row n least start₀ other₀ start other = (other ≤ length lengths) × (start ≡ sumOf (take other lengths)) × (every (λ k. eqb k li || allClearOf points (getD (cut lengths front-nodes) k []) least row n) other ≡ true)
 
 abbrev μ-loop : tie.MeasureT-loop
 μ-loop points front-nodes lengths li row n least start₀ other₀ start other = length lengths - other
 
 loop-holds : tie.Need-loop-holds Inv-loop μ-loop
-unfolding pairs
+unfolding sumOf
 loop-holds c = (omega arith, refl, every-none _)
 
 mul-wide : tie.Need-mul-wide Inv-loop μ-loop

@@ -5,14 +5,14 @@ use native.Mathlib.Omega.{arith}
 use lib.ListN.{length, drop}
 use lib.Dec.{leb}
 use borrow.Author.Needs.{needs}
-use Rattle.geometry.specs.Domain.{pairs}
+use Rattle.geometry.specs.Domain.{sumOf}
 use Rattle.exports.specs.Outline.{loopsFit}
 use Rattle.exports.proofs.Loops.{fit-first, fit-here, fit-next, fit-end}
 use Rattle.exports.proofs.outline.loops_fit.Statement.{statement}
 use Rattle.exports.proofs.outline.loops_fit.Tie as tie
 
 abbrev Inv-loop : tie.InvT-loop
-Inv-loop coords loops left₀ k₀ left k = (k ≤ length loops) × (loopsFit coords loops ≡ leb (pairs (drop k loops)) left)
+Inv-loop coords loops left₀ k₀ left k = (k ≤ length loops) × (loopsFit coords loops ≡ leb (sumOf (drop k loops)) left)
 
 abbrev μ-loop : tie.MeasureT-loop
 μ-loop coords loops left₀ k₀ left k = length loops - k

@@ -4,7 +4,7 @@ use Prim.Native.Nat.{_≤_}
 use native.Mathlib.Omega.{arith}
 use lib.ListN.{length, take, length-take}
 use lib.Seq.{length-take-le}
-use Rattle.geometry.specs.Domain.{pairs}
+use Rattle.geometry.specs.Domain.{sumOf}
 use Rattle.sampling.specs.State.{Lent}
 use Rattle.sampling.specs.Call.{lent}
 use Rattle.rows.specs.Sound.{sizesOf}
@@ -80,7 +80,7 @@ put-row-quads-requires c κs =
     let S = entry .pre .0 in let R = entry .pre .1 .1 in let e1 = at-count .count .ensures in let e2 = at-count2 .count2 .ensures in let e3 = at-count3 .count3 .ensures in
     let fs = rw e3 at (at-front-at .front-at .ensures .0) in let fl = rw e3 at (at-front-at .front-at .ensures .1) in
     let w = pairs-within (sizesOf b) (a .li) (R .front) in
-    let fits : pairs (sizesOf b) ≤ length (a .front-nodes .now) = omega arith in
+    let fits : sumOf (sizesOf b) ≤ length (a .front-nodes .now) = omega arith in
     let e = part-is (sizesOf b) (a .front-nodes .now) (a .li) (R .front) fits _ _ _ fs fl (c .nodes-of .ensures) in
     let lo : length (c .nodes-of .result .now) ≡ at-front-at .front-at .result .len = ap length e ∙ sym (cut-length (sizesOf b) (a .front-nodes .now) (a .li) (R .front) fits _ fl) in
     omega arith
@@ -194,7 +194,7 @@ returns c =
     let S = entry .pre .0 in let R = entry .pre .1 .1 in let e1 = at-count .count .ensures in let e2 = at-count2 .count2 .ensures in let e3 = at-count3 .count3 .ensures in
     let fs = rw e3 at (at-front-at .front-at .ensures .0) in let fl = rw e3 at (at-front-at .front-at .ensures .1) in
     let w = pairs-within (sizesOf b) (a .li) (R .front) in
-    let fits : pairs (sizesOf b) ≤ length (a .front-nodes .now) = omega arith in
+    let fits : sumOf (sizesOf b) ≤ length (a .front-nodes .now) = omega arith in
     let e = part-is (sizesOf b) (a .front-nodes .now) (a .li) (R .front) fits _ _ _ fs fl (at-nodes-of .nodes-of .ensures) in
     laid-is b S (entry .pre .1 .0) (a .li) _ (a .row .now) R fl (rw e1 at (at-copy-points .copy-points .ensures)) e (rw (e1, e2) at (at-put-row-quads .put-row-quads .ensures)) (rw (fs, e1) at (at-put-numbers .put-numbers .ensures))
     (rw (← e1, ← e2, ← e3) (c .before .before .put-counts .ensures))

@@ -5,13 +5,13 @@ use native.Mathlib.Nat.{zero-add, add-zero}
 use native.Mathlib.Omega.{arith}
 use lib.ListN.{length, drop}
 use borrow.Author.Needs.{needs, scaled-fits}
-use Rattle.geometry.specs.Domain.{pairs}
+use Rattle.geometry.specs.Domain.{sumOf}
 use Rattle.sampling.proofs.Walk.{pairs-step, pairs-end}
 use Rattle.sampling.proofs.input.pairs_of.Statement.{statement}
 use Rattle.sampling.proofs.input.pairs_of.Tie as tie
 
 abbrev Inv-loop : tie.InvT-loop
-Inv-loop loop-lengths sum₀ i₀ sum i = (i ≤ length loop-lengths) × (sum + pairs (drop i loop-lengths) ≡ pairs loop-lengths) × (sum ≤ i * 65535)
+Inv-loop loop-lengths sum₀ i₀ sum i = (i ≤ length loop-lengths) × (sum + sumOf (drop i loop-lengths) ≡ sumOf loop-lengths) × (sum ≤ i * 65535)
 
 abbrev μ-loop : tie.MeasureT-loop
 μ-loop loop-lengths sum₀ i₀ sum i = length loop-lengths - i
