@@ -2,7 +2,7 @@
 // the eight counts in document 01's order. Each answers 0 or a refusal's number; another length of a buffer is number 1.
 ghost use mathlib.Core.Path.{_≡_};
 ghost use lib.ListN.{length};
-ghost use Rattle.sampling.specs.Call.{answer, job, lengthsOf, lent};
+ghost use Rattle.sampling.specs.Call.{answer, job, lengthsOf, held};
 ghost use Rattle.sampling.specs.Sample.{sampleCall};
 ghost use Rattle.paving.specs.RowCall.{rowCall};
 ghost use Rattle.exports.specs.Calls.{optionsOf};
@@ -43,7 +43,7 @@ pub extern "C" fn pave_sample(
     front_lengths: &mut [u16],
     counts: &mut [u64],
 ) -> u32
-    ensures { λ r. ⌜ answer r (lent (now (points .exit)) (now (quads .exit)) (now («front_nodes» .exit)) (now («front_lengths» .exit)) (now (counts .exit)))
+    ensures { λ r. ⌜ answer r (held (now (points .exit)) (now (quads .exit)) (now («front_nodes» .exit)) (now («front_lengths» .exit)) (now (counts .exit)))
         ≡ sampleCall (job (now (coords .entry)) (now («loop_lengths» .entry)) h (optionsOf «corner_margin» «min_edge_fraction» «front_gap» «max_row_rounds» seam))
         (lengthsOf (length (now (points .entry))) (length (now (quads .entry))) (length (now («front_nodes» .entry))) (length (now («front_lengths» .entry))) (length (now (counts .entry)))) ⌝ }
 {
@@ -85,9 +85,9 @@ pub extern "C" fn pave_row(
     front_lengths: &mut [u16],
     counts: &mut [u64],
 ) -> u32
-    ensures { λ r. ⌜ answer r (lent (now (points .exit)) (now (quads .exit)) (now («front_nodes» .exit)) (now («front_lengths» .exit)) (now (counts .exit)))
+    ensures { λ r. ⌜ answer r (held (now (points .exit)) (now (quads .exit)) (now («front_nodes» .exit)) (now («front_lengths» .exit)) (now (counts .exit)))
         ≡ rowCall (job (now (coords .entry)) (now («loop_lengths» .entry)) h (optionsOf «corner_margin» «min_edge_fraction» «front_gap» «max_row_rounds» seam)) front
-        (lent (now (points .entry)) (now (quads .entry)) (now («front_nodes» .entry)) (now («front_lengths» .entry)) (now (counts .entry))) ⌝ }
+        (held (now (points .entry)) (now (quads .entry)) (now («front_nodes» .entry)) (now («front_lengths» .entry)) (now (counts .entry))) ⌝ }
 {
     let options = options_of(
         corner_margin,

@@ -13,3 +13,4 @@ pub mod Squares
 pub mod Theorems
 pub mod Order
 pub mod Least
+pub mod Bounds

@@ -9,10 +9,10 @@ use lib.Dec.{eqb}
 use lib.Ieee.{Float}
 use borrow.Author.Tests.{ne-eqb}
 use Rattle.float.specs.Helpers.{decimal}
-use Rattle.sampling.specs.State.{State, Lent, Lengths, zeros, padded, joined, written}
+use Rattle.sampling.specs.State.{State, Held, Lengths, zeros, padded, joined, written}
 use Rattle.sampling.specs.Job.{Job, Outcome, refused, gives, inputNumber}
 use Rattle.sampling.specs.Sample.{sampled, answered, jobAnswer, sampleCall}
-use Rattle.sampling.specs.Call.{lengthsOf, lent, answer}
+use Rattle.sampling.specs.Call.{lengthsOf, held, answer}
 use Rattle.sampling.specs.Sampled.{Sampled, ofLoops}
 use Rattle.sampling.proofs.Stores.{front-padded}
 use Rattle.sampling.proofs.Shape.{Shaped, accepted}
@@ -25,13 +25,13 @@ module _ (j : Job) (l : Lengths) where
   unfolding sampleCall jobAnswer
   answer-is o n e f = rw (← e, f)
 
-  pub input-refused : (n : ℕ) (b : Lent) → n ≡ inputNumber j l → (n ≡ 0 → ⊥) → b ≡ zeros l → answer n b ≡ sampleCall j l
+  pub input-refused : (n : ℕ) (b : Held) → n ≡ inputNumber j l → (n ≡ 0 → ⊥) → b ≡ zeros l → answer n b ≡ sampleCall j l
   unfolding answered
-  input-refused n b e f g = ap (λ (x : Lent). answer n x) g ∙ sym (answer-is (refused n) n e (rw (ne-eqb n 0 f)))
+  input-refused n b e f g = ap (λ (x : Held). answer n x) g ∙ sym (answer-is (refused n) n e (rw (ne-eqb n 0 f)))
 
-  pub loop-refused : (n : ℕ) (b : Lent) → 0 ≡ inputNumber j l → sampled j ≡ refused n → b ≡ zeros l → answer n b ≡ sampleCall j l
+  pub loop-refused : (n : ℕ) (b : Held) → 0 ≡ inputNumber j l → sampled j ≡ refused n → b ≡ zeros l → answer n b ≡ sampleCall j l
   unfolding answered
-  loop-refused n b e f g = ap (λ (x : Lent). answer n x) g ∙ sym (answer-is (refused n) 0 e f)
+  loop-refused n b e f g = ap (λ (x : Held). answer n x) g ∙ sym (answer-is (refused n) 0 e f)
 
   -- the loops written over p, n and m; p', q, n' and m' with zeros behind
   module _ (nodes : ℕ) (p p₁ p' : List Float) (q₀ q n n₁ n' m m₁ m' c : List ℕ) (s : Sampled j nodes p p₁ n n₁ m m₁) (e : 0 ≡ inputNumber j l)
@@ -71,6 +71,6 @@ module _ (j : Job) (l : Lengths) where
         half : (n l : ℕ) → n * 2 ≡ l → l / 2 ≡ n
         half n l e = omega arith
 
-    pub given : answer 0 (lent p' q n' m' c) ≡ sampleCall j l
+    pub given : answer 0 (held p' q n' m' c) ≡ sampleCall j l
     unfolding answered written joined
     given = rw (points-are, quads-are, nodes-are, lengths-are, counts-are) (sym (answer-is (gives (ofLoops (s .points) (s .fronts))) 0 e (s .made)))

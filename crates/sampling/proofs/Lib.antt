@@ -1,15 +1,2 @@
-pub mod Fill
-pub mod Literals
-pub mod Stores
-pub mod Bounds
-pub mod Walk
-pub mod Shape
-pub mod Keeping
-pub mod Turning
-pub mod Measuring
-pub mod Planning
-pub mod Placing
-pub mod Numbers
 pub mod Sampling
 pub mod Calling
-pub mod Answers

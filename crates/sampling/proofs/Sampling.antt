@@ -13,7 +13,7 @@ use lib.Ieee.{Float}
 use borrow.Author.Tests.{eq-eqb, ne-eqb}
 use Rattle.geometry.specs.Rings.{Ring, ringOf}
 use Rattle.geometry.specs.Domain.{rings, sumOf}
-use Rattle.sampling.specs.declared.Options.{Options}
+use Rattle.input.specs.declared.Options.{Options}
 use Rattle.sampling.specs.State.{State, joined}
 use Rattle.sampling.specs.Job.{Job, Outcome, refused, gives}
 use Rattle.sampling.specs.Loop.{loopRing, planned, placed, sampleLoop}

@@ -1,11 +1,2 @@
-pub mod State
-pub mod Job
-pub mod Loop
 pub mod Sample
-pub mod Call
-pub mod Backwards
-pub mod Side
-pub mod Measured
-pub mod Kept
-pub mod Placing
 pub mod Sampled

@@ -5,8 +5,10 @@ use Prim.Native.Nat.{ℕ, _*_, _≤_}
 use lib.ListN.{length}
 use lib.Seq.{sets}
 use lib.Ieee.{Float}
-use Rattle.sampling.specs.State.{State, joined}
-use Rattle.sampling.specs.Job.{Job, gives}
+use Rattle.state.specs.Limits.{frontNodeLimit}
+use Rattle.state.specs.State.{State, joined}
+use Rattle.state.specs.Outcome.{gives}
+use Rattle.input.specs.Job.{Job}
 use Rattle.sampling.specs.Sample.{sampled}
 
 -- the state that has these points and fronts and nothing else
@@ -19,7 +21,7 @@ pub record Sampled (j : Job) (nodes : ℕ) (p p' : List Float) (n n' l l' : List
   pub fronts : List (List ℕ)
   pub made : sampled j ≡ gives (ofLoops points fronts)
   pub nodesIs : nodes * 2 ≡ length points
-  pub few : nodes ≤ 2048
+  pub few : nodes ≤ frontNodeLimit
   pub joinedIs : length (joined fronts) ≡ nodes
   pub frontsIs : length fronts ≡ length (j .loops)
   pub pointsAre : p' ≡ sets p 0 points

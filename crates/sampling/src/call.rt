@@ -2,7 +2,7 @@
 ghost use mathlib.Core.Path.{_≡_};
 ghost use lib.ListN.{length};
 ghost use Rattle.sampling.specs.Sample as samples;
-ghost use Rattle.sampling.specs.Call.{answer, job, lengthsOf, lent};
+ghost use Rattle.sampling.specs.Call.{answer, job, lengthsOf, held};
 use crate::Options;
 use crate::all_loops::sample_loops;
 use crate::buffers::clear_all;
@@ -24,7 +24,7 @@ pub fn sample(
     front_lengths: &mut [u16],
     counts: &mut [u64],
 ) -> u32
-    ensures { λ r. ⌜ answer r (lent (now (points .exit)) (now (quads .exit)) (now («front_nodes» .exit)) (now («front_lengths» .exit)) (now (counts .exit)))
+    ensures { λ r. ⌜ answer r (held (now (points .exit)) (now (quads .exit)) (now («front_nodes» .exit)) (now («front_lengths» .exit)) (now (counts .exit)))
         ≡ samples.sampleCall (job (now (coords .entry)) (now («loop_lengths» .entry)) h options)
         (lengthsOf (length (now (points .entry))) (length (now (quads .entry))) (length (now («front_nodes» .entry))) (length (now («front_lengths» .entry))) (length (now (counts .entry)))) ⌝ }
 {

@@ -4,7 +4,7 @@ ghost use Prim.Native.Nat.{_*_, _<_, _≤_};
 ghost use lib.ListN.{getD, length};
 ghost use Rattle.geometry.specs.Domain.{sumOf};
 ghost use Rattle.sampling.specs.State.{reading};
-ghost use Rattle.sampling.specs.Call.{answer, job, lent};
+ghost use Rattle.sampling.specs.Call.{answer, job, held};
 ghost use Rattle.paving.specs.Row.{nextRow};
 ghost use Rattle.paving.specs.RowCall.{kept};
 ghost use Rattle.rows.specs.Sound.{Clean, Sound};
@@ -30,14 +30,14 @@ pub extern "C" fn timing_next_row(
     front_lengths: &mut [u16],
     counts: &mut [u64],
 ) -> u32
-    requires { ⌜ Sound (lent (now points) (now quads) (now «front_nodes») (now «front_lengths») (now counts)) ⌝ }
-    requires { ⌜ Clean (lent (now points) (now quads) (now «front_nodes») (now «front_lengths») (now counts)) ⌝ }
+    requires { ⌜ Sound (held (now points) (now quads) (now «front_nodes») (now «front_lengths») (now counts)) ⌝ }
+    requires { ⌜ Clean (held (now points) (now quads) (now «front_nodes») (now «front_lengths») (now counts)) ⌝ }
     requires { ⌜ (front < getD (now counts) 2 0) × (sumOf (now «loop_lengths») * 2 ≤ length (now coords)) ⌝ }
-    ensures { λ r. ⌜ answer r (lent (now (points .exit)) (now (quads .exit)) (now («front_nodes» .exit)) (now («front_lengths» .exit)) (now (counts .exit)))
-        ≡ kept (lent (now (points .entry)) (now (quads .entry)) (now («front_nodes» .entry)) (now («front_lengths» .entry)) (now (counts .entry)))
+    ensures { λ r. ⌜ answer r (held (now (points .exit)) (now (quads .exit)) (now («front_nodes» .exit)) (now («front_lengths» .exit)) (now (counts .exit)))
+        ≡ kept (held (now (points .entry)) (now (quads .entry)) (now («front_nodes» .entry)) (now («front_lengths» .entry)) (now (counts .entry)))
         (nextRow (job (now (coords .entry)) (now («loop_lengths» .entry)) h
         (record { «corner_margin» = «corner_margin»; «min_edge_fraction» = «min_edge_fraction»; «front_gap» = «front_gap»; «max_row_rounds» = «max_row_rounds»; seam = seam }))
-        (reading (lent (now (points .entry)) (now (quads .entry)) (now («front_nodes» .entry)) (now («front_lengths» .entry)) (now (counts .entry)))) front) ⌝ }
+        (reading (held (now (points .entry)) (now (quads .entry)) (now («front_nodes» .entry)) (now («front_lengths» .entry)) (now (counts .entry)))) front) ⌝ }
 {
     let options = Options {
         corner_margin,

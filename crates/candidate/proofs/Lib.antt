@@ -1,9 +1,0 @@
-pub mod Basics
-pub mod Every
-pub mod Sides
-pub mod Literals
-pub mod Projects
-pub mod Searching
-pub mod Building
-pub mod Cutting
-pub mod Standing

@@ -1,0 +1,23 @@
+// A job's input: the options, and the numbers 1 to 6 of document 01. Every call tests its job by `input_number`.
+mod input;
+
+pub use input::input_number;
+
+// The Rust's `Options`, by value: margins, fractions and gaps in sizes h, the limit of passes, and `seam`.
+pub struct Options {
+    pub corner_margin: f64,
+    pub min_edge_fraction: f64,
+    pub front_gap: f64,
+    pub max_row_rounds: u64,
+    pub seam: bool,
+}
+
+impl Options {
+    pub const CORNER_MARGIN: f64 = 2.4;
+
+    pub const MIN_EDGE: f64 = 0.08;
+
+    pub const FRONT_GAP: f64 = 1.2;
+
+    pub const MAX_ROW_ROUNDS: u64 = 32;
+}

@@ -1,0 +1,4 @@
+pub mod Sums
+pub mod Occurs
+pub mod Sides
+pub mod Chords

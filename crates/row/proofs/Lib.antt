@@ -1,0 +1,5 @@
+pub mod Laying
+pub mod Fitting
+pub mod Writing
+pub mod Agreeing
+pub mod Stepping

@@ -1,0 +1,6 @@
+pub mod Sides
+pub mod Literals
+pub mod Projects
+pub mod Searching
+pub mod Building
+pub mod Standing

@@ -1,0 +1,15 @@
+pub mod Lists
+pub mod Every
+pub mod RowSides
+pub mod Invariant
+pub mod RowGood
+pub mod Closes
+pub mod ClosingGood
+pub mod FanGood
+pub mod SampleGood
+pub mod PassGood
+pub mod Numbers
+pub mod Limits
+pub mod Refusals
+pub mod Answers
+pub mod Demands

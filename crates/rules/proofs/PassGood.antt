@@ -1,0 +1,155 @@
+-- Rows, passes and several passes: the invariant is kept, and points and quads are only added. A run of few passes is the first part of a run of more.
+use mathlib.Core.Path.{_≡_, refl, ap, sym, _∙_, subst}
+use mathlib.Core.Bool.{Bool, true, false, cond, not, _&&_, _||_}
+use mathlib.Core.List.{List, [], _∷_, _++_, append-nil, append-assoc}
+use Prim.Native.Nat.{ℕ, zero, suc, _+_, _*_, _/_, _≤_, _<_}
+use native.Mathlib.Omega.{arith}
+use lib.Dec.{eqb, leb, ltb}
+use lib.ListN.{length, getD, length-append}
+use lib.Ieee.{Float}
+use borrow.Author.Tests.{eqb-true, leb-true, not-false}
+use Rattle.geometry.specs.Rings.{Ring}
+use Rattle.state.specs.State.{State, Quad, nodes}
+use Rattle.input.specs.Job.{Job}
+use Rattle.state.specs.Outcome.{Outcome, refused, gives, firstOf, test}
+use Rattle.paving.specs.declared.Projection.{Projection}
+use Rattle.paving.specs.declared.Projection.the-variants.{At, Nothing}
+use Rattle.rules.specs.Projecting.{projectionNumber, projectionValues}
+use Rattle.rules.specs.Simple.{isSimple}
+use Rattle.rules.specs.Row.{every, projection, newPoints, old, new, newRing, newQuads, projects, inside, offBoundary, longEnough, clearOfFront, cornersPassAt, rowStands, committed, nextRow}
+use Rattle.rules.specs.Passes.{passOrder, rowsInOrder, begun, onePass, somePasses}
+use Rattle.rules.proofs.Lists.{and-left, and-right, every-at}
+use Rattle.state.proofs.Outcomes.{gives-same, not-both, first-none, numbered-gives}
+use Rattle.rules.proofs.RowSides.{row-length}
+use Rattle.rules.proofs.Invariant.{Good}
+use Rattle.rules.proofs.RowGood.{row-good}
+
+abbrev pub GoodState : List (List ℕ) → State → Type 0
+GoodState loops s = Good loops (s .points) (s .quads) (s .fronts)
+
+-- what a step of the rows does to a state
+pub record Advances (s t : State) : Type 0 where
+  pub keeps : (loops : List (List ℕ)) → GoodState loops s → GoodState loops t
+  pub laidAll : s .laid ≡ length (s .quads) → t .laid ≡ length (t .quads)
+  pub morePoints : List Float
+  pub pointsAre : t .points ≡ s .points ++ morePoints
+  pub moreQuads : List Quad
+  pub quadsAre : t .quads ≡ s .quads ++ moreQuads
+
+pub stays : (s : State) → Advances s s
+stays s = record { keeps = λ loops g. g; laidAll = λ e. e; morePoints = []; pointsAre = sym (append-nil (s .points)); moreQuads = []; quadsAre = sym (append-nil (s .quads)) }
+
+pub goes-on : {s t u : State} → Advances s t → Advances t u → Advances s u
+goes-on {s} {t} {u} x y = record {
+  keeps = λ loops g. y .keeps loops (x .keeps loops g);
+  laidAll = λ e. y .laidAll (x .laidAll e);
+  morePoints = x .morePoints ++ y .morePoints;
+  pointsAre = y .pointsAre ∙ ap (λ p. p ++ y .morePoints) (x .pointsAre) ∙ append-assoc (s .points) (x .morePoints) (y .morePoints);
+  moreQuads = x .moreQuads ++ y .moreQuads;
+  quadsAre = y .quadsAre ∙ ap (λ q. q ++ y .moreQuads) (x .quadsAre) ∙ append-assoc (s .quads) (x .moreQuads) (y .moreQuads);
+}
+
+-- ---- a row
+
+values-length : (x : Projection) → eqb (projectionNumber x) 0 ≡ true → length (projectionValues x) ≡ 2
+values-length (At x y) e = refl
+values-length Nothing e = absurd (omega (arith, eqb-true 22 0 e))
+
+new-length : (r : Ring) (h : Float) (k : ℕ) → ((i : ℕ) → i < k → eqb (projectionNumber (projection r h i)) 0 ≡ true) → length (newPoints r h k) ≡ k * 2
+unfolding newPoints
+new-length r h zero p = refl
+new-length r h (suc k) p =
+    let e = new-length r h k (λ i l. p i (omega arith)) in
+    omega (arith, length-append (newPoints r h k) (projectionValues (projection r h k)), values-length (projection r h k) (p k (omega arith)))
+
+module _ (j : Job) (s : State) (li : ℕ) (stands : rowStands j s li ≡ true) where
+  abbrev n : ℕ
+  n = length (old j s li)
+
+  -- the eight checks, the last first
+  upTo7 : (leb 6 n && every (projects j s li) n && every (inside j s li) n && every (offBoundary j s li) n && every (longEnough j s li) n && every (clearOfFront j s li) (length (s .fronts)) && isSimple (newRing j s li)) ≡ true
+  unfolding rowStands
+  upTo7 = and-left _ (every (cornersPassAt j s li) n) stands
+
+  cornersHold : every (cornersPassAt j s li) n ≡ true
+  unfolding rowStands
+  cornersHold = and-right (leb 6 n && every (projects j s li) n && every (inside j s li) n && every (offBoundary j s li) n && every (longEnough j s li) n && every (clearOfFront j s li) (length (s .fronts)) && isSimple (newRing j s li)) _ stands
+
+  upTo2 : (leb 6 n && every (projects j s li) n) ≡ true
+  upTo2 = and-left _ _ (and-left _ _ (and-left _ _ (and-left _ _ (and-left _ _ upTo7))))
+
+  six : 6 ≤ n
+  six = leb-true 6 n (and-left _ _ upTo2)
+
+  long : length (new j s li) ≡ n * 2
+  long = new-length _ (j .h) n (λ i l. every-at (projects j s li) n i (and-right (leb 6 n) _ upTo2) l)
+
+  commits : Advances s (committed j s li)
+  unfolding committed
+  commits = record {
+    keeps = λ loops g. row-good loops (s .points) (s .quads) (s .fronts) li g (new j s li) six long (λ i l. every-at (cornersPassAt j s li) n i cornersHold l);
+    laidAll = λ e. sym (length-append (s .quads) (newQuads j s li) ∙ ap (λ k. length (s .quads) + k) (row-length (old j s li) (nodes s) n));
+    morePoints = new j s li;
+    pointsAre = refl;
+    moreQuads = newQuads j s li;
+    quadsAre = refl;
+  }
+
+pub row-advances : (j : Job) (s : State) (li : ℕ) (t : State) → nextRow j s li ≡ gives t → Advances s t
+unfolding nextRow
+row-advances j s li t e =
+    let m = length (old j s li) in
+    let all = numbered-gives (firstOf (test 22 (not (rowStands j s li)) ∷ test 21 (ltb 4096 (nodes s + m) || ltb 4096 (length (s .quads) + m)) ∷ [])) (committed j s li) t e in
+    let stands = not-false (rowStands j s li) (first-none 21 (not (rowStands j s li)) _ (all .0) .0) in
+    subst (λ u. Advances s u) (all .1) (commits j s li stands)
+
+-- ---- a pass
+
+rows-advance : (j : Job) (order : List ℕ) (s t : State) → rowsInOrder j order s ≡ gives t → Advances s t
+unfolding rowsInOrder
+rows-advance j [] s t e = subst (λ u. Advances s u) (gives-same e) (stays s)
+rows-advance j (li ∷ order) s t e = go (nextRow j s li) refl (λ u d. rows-advance j order u t d)
+  where
+    go : (x : Outcome State) → nextRow j s li ≡ x → ((u : State) → rowsInOrder j order u ≡ gives t → Advances u t) → Advances s t
+    go (gives u) d rest = goes-on (row-advances j s li u d) (rest u (rw (d, rowsInOrder) at e))
+    go (refused k) d rest = pick (eqb k 21) (rw (d, rowsInOrder) at e)
+      where
+        pick : (b : Bool) → cond b (refused 21) (rowsInOrder j order s) ≡ gives t → Advances s t
+        pick true f = absurd (not-both f)
+        pick false f = rest s f
+
+pub pass-advances : (j : Job) (s t : State) → onePass j s ≡ gives t → Advances s t
+unfolding onePass
+pass-advances j s t e =
+    let x = rows-advance j (passOrder s) (begun s) t e in
+    record { keeps = x .keeps; laidAll = x .laidAll; morePoints = x .morePoints; pointsAre = x .pointsAre; moreQuads = x .moreQuads; quadsAre = x .quadsAre }
+
+-- ---- several passes
+
+-- a run of p passes is the first part of a run of q: with p = 0 the state that it starts from
+pub passes-prefix : (j : Job) (p q : ℕ) (s t u : State) → p ≤ q → somePasses j p s ≡ gives t → somePasses j q s ≡ gives u → Advances t u
+unfolding somePasses
+passes-prefix j zero zero s t u l e f = subst (λ x. Advances t x) (gives-same (sym e ∙ f)) (stays t)
+passes-prefix j zero (suc q) s t u l e f = go (onePass j s) refl (λ v d. passes-prefix j zero q v v u (omega arith) refl d)
+  where
+    go : (x : Outcome State) → onePass j s ≡ x → ((v : State) → somePasses j q v ≡ gives u → Advances v u) → Advances t u
+    go (refused k) d rest = absurd (not-both (rw (d, somePasses) at f))
+    go (gives v) d rest = subst (λ x. Advances x u) (gives-same e) (goes-on (pass-advances j s v d) (pick (eqb (v .rowRounds) (s .rowRounds)) (rw (d, somePasses) at f)))
+      where
+        pick : (b : Bool) → (elim b as (λ _. Outcome State) [ true ↦ gives v | false ↦ somePasses j q v ]) ≡ gives u → Advances v u
+        pick true h = subst (λ x. Advances v x) (gives-same h) (stays v)
+        pick false h = rest v h
+passes-prefix j (suc p) zero s t u l e f = absurd (omega arith)
+passes-prefix j (suc p) (suc q) s t u l e f = go (onePass j s) refl (λ v d g. passes-prefix j p q v t u (omega arith) d g)
+  where
+    go : (x : Outcome State) → onePass j s ≡ x → ((v : State) → somePasses j p v ≡ gives t → somePasses j q v ≡ gives u → Advances t u) → Advances t u
+    go (refused k) d rest = absurd (not-both (rw (d, somePasses) at f))
+    go (gives v) d rest = pick (eqb (v .rowRounds) (s .rowRounds)) (rw (d, somePasses) at e) (rw (d, somePasses) at f)
+      where
+        pick : (b : Bool) → (elim b as (λ _. Outcome State) [ true ↦ gives v | false ↦ somePasses j p v ]) ≡ gives t → (elim b as (λ _. Outcome State) [ true ↦ gives v | false ↦ somePasses j q v ]) ≡ gives u → Advances t u
+        pick true g h = subst (λ x. Advances t x) (gives-same (sym g ∙ h)) (stays t)
+        pick false g h = rest v g h
+
+pub passes-advance : (j : Job) (q : ℕ) (s u : State) → somePasses j q s ≡ gives u → Advances s u
+unfolding somePasses
+passes-advance j q s u f = passes-prefix j zero q s s u (omega arith) refl f

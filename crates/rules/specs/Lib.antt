@@ -1,0 +1,10 @@
+pub mod Projecting
+pub mod Simple
+pub mod Row
+pub mod RowCall
+pub mod Passes
+pub mod Closing
+pub mod Fan
+pub mod Calls
+pub mod Plates
+pub mod Demands

@@ -1,0 +1,15 @@
+pub mod Basics
+pub mod Outcomes
+pub mod Literals
+pub mod Stores
+pub mod Fill
+pub mod Walk
+pub mod Cutting
+pub mod Growing
+pub mod Written
+pub mod Reading
+pub mod Repeating
+pub mod Sounding
+pub mod Fitting
+pub mod Zeros
+pub mod Calling

@@ -1,0 +1,7 @@
+pub mod Limits
+pub mod Outcome
+pub mod State
+pub mod Coordinates
+pub mod Given
+pub mod Call
+pub mod Sound
