@@ -1,21 +1,24 @@
 // One row on lent buffers: `next_row` with `commit_row`.
 ghost use mathlib.Core.Path.{_≡_};
 ghost use Prim.Native.Nat.{_*_, _<_, _≤_};
-ghost use lib.ListN.{getD, length};
+ghost use lib.ListN.{length};
 ghost use Rattle.geometry.specs.Domain.{sumOf};
-ghost use Rattle.sampling.specs.State.{reading};
-ghost use Rattle.sampling.specs.Call.{answer, job, held};
-ghost use Rattle.paving.specs.Row.{nextRow};
-ghost use Rattle.rows.specs.Sound.{Clean, Sound};
-ghost use Rattle.paving.specs.RowCall.{kept, rowCall};
-use crate::given::wrong_state;
-use crate::laying::count;
+ghost use Rattle.state.specs.State.{reading};
+ghost use Rattle.state.specs.Call.{held, left, stateLeft};
+ghost use Rattle.state.specs.Sound.{Clean, Sound};
+ghost use Rattle.input.specs.Job.{job};
+ghost use Rattle.rules.specs.Row.{nextRow};
+ghost use Rattle.rules.specs.RowCall.{rowCall};
 use crate::step::row_on;
-use sampling::Options;
+use input::Options;
+use input::input_number;
+use state::Answer;
+use state::Counts;
+use state::wrong_state;
 
-// A row on front `li` of a state whose buffers are sound and clean: its number, 0 when it is laid, and the buffers are clean
-// again. A refused row leaves everything as it was. Whoever lays row after row calls this for each: it tests nothing of the
-// state but the row, and writes nothing but the row.
+// A row on front `li` of a state whose buffers are sound and clean; they are clean again after it. A refused row leaves everything
+// as it was. Whoever lays row after row calls this for each: it tests nothing of the state but the row, and writes nothing but the
+// row.
 pub fn next_row(
     coords: &[f64],
     loop_lengths: &[u16],
@@ -26,15 +29,14 @@ pub fn next_row(
     quads: &mut [u16],
     front_nodes: &mut [u16],
     front_lengths: &mut [u16],
-    counts: &mut [u64],
-) -> u32
-    requires { ⌜ Sound (held (now points) (now quads) (now «front_nodes») (now «front_lengths») (now counts)) ⌝ }
-    requires { ⌜ Clean (held (now points) (now quads) (now «front_nodes») (now «front_lengths») (now counts)) ⌝ }
-    requires { ⌜ (li < getD (now counts) 2 0) × (sumOf (now «loop_lengths») * 2 ≤ length (now coords)) ⌝ }
-    ensures { λ r. ⌜ answer r (held (now (points .exit)) (now (quads .exit)) (now («front_nodes» .exit)) (now («front_lengths» .exit)) (now (counts .exit)))
-        ≡ kept (held (now (points .entry)) (now (quads .entry)) (now («front_nodes» .entry)) (now («front_lengths» .entry)) (now (counts .entry)))
-        (nextRow (job (now (coords .entry)) (now («loop_lengths» .entry)) h options)
-        (reading (held (now (points .entry)) (now (quads .entry)) (now («front_nodes» .entry)) (now («front_lengths» .entry)) (now (counts .entry)))) li) ⌝ }
+    counts: Counts,
+) -> Answer
+    requires { ⌜ Sound (held (now points) (now quads) (now «front_nodes») (now «front_lengths») counts) ⌝ }
+    requires { ⌜ Clean (held (now points) (now quads) (now «front_nodes») (now «front_lengths») counts) ⌝ }
+    requires { ⌜ (li < counts .fronts) × (sumOf (now «loop_lengths») * 2 ≤ length (now coords)) ⌝ }
+    ensures { λ r. ⌜ left r (held (now (points .exit)) (now (quads .exit)) (now («front_nodes» .exit)) (now («front_lengths» .exit)) counts)
+        ≡ stateLeft (held (now (points .entry)) (now (quads .entry)) (now («front_nodes» .entry)) (now («front_lengths» .entry)) counts)
+        (nextRow (job (now (coords .entry)) (now («loop_lengths» .entry)) h options) (reading (held (now (points .entry)) (now (quads .entry)) (now («front_nodes» .entry)) (now («front_lengths» .entry)) counts)) li) ⌝ }
 {
     row_on(
         coords,
@@ -51,8 +53,7 @@ pub fn next_row(
     )
 }
 
-// The row call. Numbers 1 to 6 for the job, 25 for the state, 20, 22 and 21, in that order; 0 when the row is laid. No refusal
-// changes anything.
+// The row call. Numbers 1 to 6 for the job, 25 for the state, 20, 22 and 21, in that order. No refusal changes anything.
 pub fn row(
     coords: &[f64],
     loop_lengths: &[u16],
@@ -63,13 +64,12 @@ pub fn row(
     quads: &mut [u16],
     front_nodes: &mut [u16],
     front_lengths: &mut [u16],
-    counts: &mut [u64],
-) -> u32
-    ensures { λ r. ⌜ answer r (held (now (points .exit)) (now (quads .exit)) (now («front_nodes» .exit)) (now («front_lengths» .exit)) (now (counts .exit)))
-        ≡ rowCall (job (now (coords .entry)) (now («loop_lengths» .entry)) h options) front
-        (held (now (points .entry)) (now (quads .entry)) (now («front_nodes» .entry)) (now («front_lengths» .entry)) (now (counts .entry))) ⌝ }
+    counts: Counts,
+) -> Answer
+    ensures { λ r. ⌜ left r (held (now (points .exit)) (now (quads .exit)) (now («front_nodes» .exit)) (now («front_lengths» .exit)) counts)
+        ≡ rowCall (job (now (coords .entry)) (now («loop_lengths» .entry)) h options) front (held (now (points .entry)) (now (quads .entry)) (now («front_nodes» .entry)) (now («front_lengths» .entry)) counts) ⌝ }
 {
-    let input = sampling::input_number(
+    let input = input_number(
         coords,
         loop_lengths,
         h,
@@ -78,23 +78,23 @@ pub fn row(
         quads.len(),
         front_nodes.len(),
         front_lengths.len(),
-        counts.len(),
     );
     if input != 0 {
-        return input;
+        return Answer::Refused(input);
     }
     if wrong_state(points, quads, front_nodes, front_lengths, counts) {
-        return 25;
+        return Answer::Refused(25);
     }
-    if counts[2] <= front {
-        return 20;
+    let li = front as usize;
+    if counts.fronts <= li {
+        return Answer::Refused(20);
     }
     row_on(
         coords,
         loop_lengths,
         h,
         options,
-        count(front),
+        li,
         points,
         quads,
         front_nodes,

@@ -4,20 +4,22 @@ ghost use mathlib.Core.Bool.{true};
 ghost use Prim.Native.Nat.{_*_, _<_, _≤_};
 ghost use lib.ListN.{getD, length};
 ghost use Rattle.geometry.specs.Domain.{sumOf};
-ghost use Rattle.sampling.specs.State.{reading};
-ghost use Rattle.sampling.specs.Call.{answer, job, held};
-ghost use Rattle.paving.specs.Row.{nextRow};
-ghost use Rattle.rows.specs.Sound.{Clean, Sound};
-ghost use Rattle.paving.specs.RowCall.{kept};
-use crate::clearing::clear_behind;
-use crate::laying::count;
+ghost use Rattle.state.specs.State.{reading};
+ghost use Rattle.state.specs.Call.{held, left, stateLeft};
+ghost use Rattle.state.specs.Sound.{Clean, Sound};
+ghost use Rattle.input.specs.Job.{job};
+ghost use Rattle.rules.specs.Row.{nextRow};
 use crate::laying::lay_row;
-use candidate::row_number;
 use geometry::wide;
-use sampling::Options;
+use input::Options;
+use row_checks::Tried;
+use row_checks::try_row;
+use state::Answer;
+use state::Counts;
+use state::clear_behind;
 
-// A row on front `li`, projected into `row`: its number, 0 when it is laid. Buffers that are not `clean` get their zeros
-// before the row is laid, and a refused row leaves everything as it was.
+// A row on front `li`, projected into `row`. Buffers that are not `clean` get their zeros before the row is laid, and a refused row
+// leaves everything as it was.
 fn row_in(
     coords: &[f64],
     loop_lengths: &[u16],
@@ -28,24 +30,21 @@ fn row_in(
     quads: &mut [u16],
     front_nodes: &mut [u16],
     front_lengths: &mut [u16],
-    counts: &mut [u64],
+    counts: Counts,
     clean: bool,
     row: &mut [f64],
-) -> u32
-    requires { ⌜ Sound (held (now points) (now quads) (now «front_nodes») (now «front_lengths») (now counts)) ⌝ }
-    requires { ⌜ (clean ≡ true → Clean (held (now points) (now quads) (now «front_nodes») (now «front_lengths») (now counts))) ⌝ }
-    requires { ⌜ (li < getD (now counts) 2 0) × (sumOf (now «loop_lengths») * 2 ≤ length (now coords)) ⌝ }
+) -> Answer
+    requires { ⌜ Sound (held (now points) (now quads) (now «front_nodes») (now «front_lengths») counts) ⌝ }
+    requires { ⌜ (clean ≡ true → Clean (held (now points) (now quads) (now «front_nodes») (now «front_lengths») counts)) ⌝ }
+    requires { ⌜ (li < counts .fronts) × (sumOf (now «loop_lengths») * 2 ≤ length (now coords)) ⌝ }
     requires { ⌜ getD (now «front_lengths») li 0 * 2 ≤ length (now row) ⌝ }
-    ensures { λ r. ⌜ answer r (held (now (points .exit)) (now (quads .exit)) (now («front_nodes» .exit)) (now («front_lengths» .exit)) (now (counts .exit)))
-        ≡ kept (held (now (points .entry)) (now (quads .entry)) (now («front_nodes» .entry)) (now («front_lengths» .entry)) (now (counts .entry)))
-        (nextRow (job (now (coords .entry)) (now («loop_lengths» .entry)) h options)
-        (reading (held (now (points .entry)) (now (quads .entry)) (now («front_nodes» .entry)) (now («front_lengths» .entry)) (now (counts .entry)))) li) ⌝ }
+    ensures { λ r. ⌜ left r (held (now (points .exit)) (now (quads .exit)) (now («front_nodes» .exit)) (now («front_lengths» .exit)) counts)
+        ≡ stateLeft (held (now (points .entry)) (now (quads .entry)) (now («front_nodes» .entry)) (now («front_lengths» .entry)) counts)
+        (nextRow (job (now (coords .entry)) (now («loop_lengths» .entry)) h options) (reading (held (now (points .entry)) (now (quads .entry)) (now («front_nodes» .entry)) (now («front_lengths» .entry)) counts)) li) ⌝ }
 {
-    let first = count(counts[0]);
-    let laid = count(counts[1]);
-    let fronts = count(counts[2]);
-    let end = first * 2;
-    let number = row_number(
+    let end = counts.points * 2;
+    let fronts = counts.fronts;
+    let tried = try_row(
         coords,
         loop_lengths,
         h,
@@ -53,16 +52,16 @@ fn row_in(
         &points[..end],
         front_nodes,
         &front_lengths[..fronts],
-        laid,
+        counts.quads,
         li,
         row,
     );
-    if number != 0 {
-        return number;
+    if let Tried::Refused(number) = tried {
+        return Answer::Refused(number);
     }
     let m = wide(front_lengths[li]) * 2;
     clear_behind(clean, points, quads, front_nodes, front_lengths, counts);
-    lay_row(
+    let after = lay_row(
         points,
         quads,
         front_nodes,
@@ -71,7 +70,7 @@ fn row_in(
         li,
         &row[..m],
     );
-    0
+    Answer::Done(after)
 }
 
 // The same in an array of its own. Most fronts are short, and a smaller array is made sooner.
@@ -85,16 +84,15 @@ pub fn row_on(
     quads: &mut [u16],
     front_nodes: &mut [u16],
     front_lengths: &mut [u16],
-    counts: &mut [u64],
+    counts: Counts,
     clean: bool,
-) -> u32
-    requires { ⌜ Sound (held (now points) (now quads) (now «front_nodes») (now «front_lengths») (now counts)) ⌝ }
-    requires { ⌜ (clean ≡ true → Clean (held (now points) (now quads) (now «front_nodes») (now «front_lengths») (now counts))) ⌝ }
-    requires { ⌜ (li < getD (now counts) 2 0) × (sumOf (now «loop_lengths») * 2 ≤ length (now coords)) ⌝ }
-    ensures { λ r. ⌜ answer r (held (now (points .exit)) (now (quads .exit)) (now («front_nodes» .exit)) (now («front_lengths» .exit)) (now (counts .exit)))
-        ≡ kept (held (now (points .entry)) (now (quads .entry)) (now («front_nodes» .entry)) (now («front_lengths» .entry)) (now (counts .entry)))
-        (nextRow (job (now (coords .entry)) (now («loop_lengths» .entry)) h options)
-        (reading (held (now (points .entry)) (now (quads .entry)) (now («front_nodes» .entry)) (now («front_lengths» .entry)) (now (counts .entry)))) li) ⌝ }
+) -> Answer
+    requires { ⌜ Sound (held (now points) (now quads) (now «front_nodes») (now «front_lengths») counts) ⌝ }
+    requires { ⌜ (clean ≡ true → Clean (held (now points) (now quads) (now «front_nodes») (now «front_lengths») counts)) ⌝ }
+    requires { ⌜ (li < counts .fronts) × (sumOf (now «loop_lengths») * 2 ≤ length (now coords)) ⌝ }
+    ensures { λ r. ⌜ left r (held (now (points .exit)) (now (quads .exit)) (now («front_nodes» .exit)) (now («front_lengths» .exit)) counts)
+        ≡ stateLeft (held (now (points .entry)) (now (quads .entry)) (now («front_nodes» .entry)) (now («front_lengths» .entry)) counts)
+        (nextRow (job (now (coords .entry)) (now («loop_lengths» .entry)) h options) (reading (held (now (points .entry)) (now (quads .entry)) (now («front_nodes» .entry)) (now («front_lengths» .entry)) counts)) li) ⌝ }
 {
     if front_lengths[li] <= 64 {
         let mut row = [0.0; 128];

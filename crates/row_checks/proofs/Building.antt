@@ -12,12 +12,12 @@ use lib.Seq.{sets}
 use lib.Dec.{eqb}
 use Rattle.geometry.specs.declared.Point.{Point}
 use Rattle.geometry.specs.Rings.{Ring, next, prev}
-use Rattle.sampling.proofs.Stores.{point-behind, front-take}
-use Rattle.paving.specs.declared.Projection.{Projection}
-use Rattle.paving.specs.declared.Projection.the-variants.{At, Nothing}
-use Rattle.paving.specs.Projecting.{project, projectionNumber, projectionValues}
-use Rattle.paving.specs.Row.{every, projection, newPoints}
-use Rattle.candidate.proofs.Sides.{next-inner}
+use Rattle.state.proofs.Stores.{point-behind, front-take}
+use Rattle.rules.specs.declared.Projection.{Projection}
+use Rattle.rules.specs.declared.Projection.the-variants.{At, Nothing}
+use Rattle.rules.specs.Projecting.{project, projectionNumber, projectionValues}
+use Rattle.rules.specs.Checks.{every, projection, newPoints}
+use Rattle.row_checks.proofs.Sides.{next-inner}
 
 prev-after : (n i : ℕ) → prev n (i + 1) ≡ i
 prev-after n i =

@@ -3,4 +3,5 @@ pub mod Literals
 pub mod Projects
 pub mod Searching
 pub mod Building
+pub mod Agreeing
 pub mod Standing

@@ -7,8 +7,8 @@ use Rattle.float.specs.Root.{root}
 use Rattle.geometry.specs.F64.{_⊕_, _⊖_, _⊗_, _⊘_}
 use Rattle.geometry.specs.declared.Point.{Point}
 use Rattle.geometry.specs.Measures.{sideLength, sharpTurn}
-use Rattle.paving.specs.declared.Projection.the-variants.{At, Nothing}
-use Rattle.paving.specs.Projecting.{project}
+use Rattle.rules.specs.declared.Projection.the-variants.{At, Nothing}
+use Rattle.rules.specs.Projecting.{project}
 
 module _ (before here after : Point) (h l1 l2 : Float) (e1 : l1 ≡ sideLength before here) (e2 : l2 ≡ sideLength here after) where
   abbrev x1 : Float

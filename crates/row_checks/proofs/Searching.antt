@@ -11,10 +11,10 @@ use lib.Dec.{eqb}
 use Rattle.geometry.specs.declared.Point.{Point}
 use Rattle.geometry.specs.Rings.{Ring, next}
 use Rattle.geometry.specs.Measures.{segmentsCross}
-use Rattle.candidate.proofs.Basics.{or-true}
-use Rattle.candidate.proofs.Sides.{next-inner}
-use Rattle.paving.proofs.Sides.{next-cases}
-use Rattle.paving.specs.Simple.{Search, neighbours, sidesCross, testPair, searchSide, search}
+use Rattle.state.proofs.Basics.{or-true}
+use Rattle.row_checks.proofs.Sides.{next-inner}
+use Rattle.pairs.proofs.Sides.{next-cases}
+use Rattle.rules.specs.Simple.{Search, neighbours, sidesCross, testPair, searchSide, search}
 
 -- ---- the sides that a side is tested with: from the next but one up to `end`
 end-cases : (n i end : ℕ) → 1 ≤ n → end ≡ cond (eqb i 0) (n - 1) n → ((i ≡ 0) × (end + 1 ≡ n)) ⊎ ((1 ≤ i) × (end ≡ n))

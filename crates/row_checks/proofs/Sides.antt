@@ -10,7 +10,7 @@ use lib.ListN.{getD}
 use Rattle.geometry.specs.declared.Point.{Point}
 use Rattle.geometry.specs.Rings.{next, pointAt}
 use Rattle.geometry.specs.Measures.{sideLength, cornersPass}
-use Rattle.paving.proofs.Sides.{next-cases}
+use Rattle.pairs.proofs.Sides.{next-cases}
 
 -- the two tests that a turn makes
 abbrev pub longEnough : Float → List Float → ℕ → ℕ → Bool

@@ -2,7 +2,7 @@
 use mathlib.Core.Path.{_≡_, refl, sym, _∙_}
 use mathlib.Core.Bool.{Bool, true, false, cond, _&&_, and-assoc, and-comm}
 use mathlib.Core.List.{List, []}
-use Prim.Native.Nat.{ℕ, _+_, _*_, _/_, _<_, _≤_}
+use Prim.Native.Nat.{ℕ, _+_, _*_, _/_, _%_, _<_, _≤_}
 use borrow.Author.Tests.{lt-leb, le-leb, lt-ltb, le-ltb}
 use lib.Ieee.{Float}
 use lib.ListN.{length, getD, take}
@@ -10,11 +10,16 @@ use Rattle.float.specs.Helpers.{decimal}
 use Rattle.geometry.specs.F64.{_⊗_}
 use Rattle.geometry.specs.Rings.{Ring, ringOf, nodeRing}
 use Rattle.geometry.specs.Domain.{rings}
-use Rattle.sampling.specs.Job.{Job, firstOf}
-use Rattle.candidate.proofs.Basics.{twenty-two}
-use Rattle.paving.specs.Simple.{isSimple}
-use Rattle.paving.specs.Row.{newPoints}
-use Rattle.candidate.specs.Candidate.{allProject, allInside, allOffBoundary, allLongEnough, allClearOfFronts, allCornersPass, restStands, rowNumber}
+use Rattle.input.specs.Job.{Job}
+use Rattle.state.specs.Outcome.{firstOf}
+use Rattle.state.proofs.Basics.{zero-one}
+use Rattle.rules.specs.Simple.{isSimple}
+use Rattle.rules.specs.Checks.{newPoints, allProject, allInside, allOffBoundary, allLongEnough, allClearOfFronts}
+use Rattle.rules.specs.Row.{restStands, rowStands, rowNumber}
+use Rattle.row_checks.specs.declared.Tried.{Tried}
+use Rattle.row_checks.specs.declared.Tried.the-variants.{Stands, Refused}
+use Rattle.row_checks.specs.Candidate.{tried, cornersBetween}
+use Rattle.row_checks.proofs.Agreeing.{corners-agree}
 
 -- ---- the checks after the projection, in the code's order, left at the first that fails
 
@@ -24,7 +29,8 @@ reordered true true false d e f = refl
 reordered true false c d e f = refl
 reordered false b c d e f = refl
 
-module _ (j : Job) (pts : List Float) (fronts : List (List ℕ)) (li : ℕ) (row : List Float) (n : ℕ) (hn : n ≡ length (getD fronts li [])) where
+module _ (j : Job) (pts : List Float) (fronts : List (List ℕ)) (li : ℕ) (row : List Float) (n : ℕ) (hn : n ≡ length (getD fronts li []))
+    (even : length pts % 2 ≡ 0) (below : (i : ℕ) → i < length (getD fronts li []) → getD (getD fronts li []) i 0 * 2 + 1 < length pts) where
   abbrev inside : Bool
   inside = allInside (rings (j .coords) (j .loops)) row n
 
@@ -38,11 +44,11 @@ module _ (j : Job) (pts : List Float) (fronts : List (List ℕ)) (li : ℕ) (row
   clear = allClearOfFronts pts fronts li (j .options .«front_gap» ⊗ j .h) row n
 
   abbrev corners : List ℕ → Bool
-  corners old = allCornersPass pts old row n
+  corners old = cornersBetween pts old row n
 
   in-order : restStands j pts fronts li row ≡ (inside && off && (long && corners (getD fronts li [])) && clear && isSimple (ringOf row n))
   unfolding restStands
-  in-order = rw (← hn) (reordered inside off long clear (isSimple (ringOf row n)) (corners (getD fronts li [])))
+  in-order = rw (corners-agree pts (getD fronts li []) row even below, ← hn) (reordered inside off long clear (isSimple (ringOf row n)) (corners (getD fronts li [])))
 
   module _ (b1 : Bool) (e1 : b1 ≡ inside) where
     pub one-outside : b1 ≡ false → false ≡ restStands j pts fronts li row
@@ -70,45 +76,49 @@ module _ (j : Job) (pts : List Float) (fronts : List (List ℕ)) (quads li n : �
   ring = nodeRing pts (getD fronts li [])
 
   pub too-few : n < 6 → 22 ≡ rowNumber j pts fronts quads li
-  unfolding rowNumber firstOf
+  unfolding rowNumber rowStands firstOf
   too-few l = rw (lt-leb 6 (length (getD fronts li [])) (rw hn at l))
 
   module _ (l : 6 ≤ n) where
     pub no-projection : allProject ring (j .h) ≡ false → 22 ≡ rowNumber j pts fronts quads li
-    unfolding rowNumber firstOf
+    unfolding rowNumber rowStands firstOf
     no-projection p = rw (p, le-leb 6 (length (getD fronts li [])) (rw hn at l))
 
     module _ (p : allProject ring (j .h) ≡ true) (row : List Float) (hr : row ≡ newPoints ring (j .h) n) where
       pub rest-fails : restStands j pts fronts li row ≡ false → 22 ≡ rowNumber j pts fronts quads li
-      unfolding rowNumber firstOf
+      unfolding rowNumber rowStands firstOf
       rest-fails s = rw (p, le-leb 6 (length (getD fronts li [])) (rw hn at l), ← (rw hn at hr), s)
 
       module _ (s : restStands j pts fronts li row ≡ true) where
         pub too-many-points : 4096 < length pts / 2 + n → 21 ≡ rowNumber j pts fronts quads li
-        unfolding rowNumber firstOf
+        unfolding rowNumber rowStands firstOf
         too-many-points g = rw (p, le-leb 6 (length (getD fronts li [])) (rw hn at l), ← (rw hn at hr), s, lt-ltb 4096 (length pts / 2 + length (getD fronts li [])) (rw hn at g))
 
         pub too-many-quads : length pts / 2 + n ≤ 4096 → 4096 < quads + n → 21 ≡ rowNumber j pts fronts quads li
-        unfolding rowNumber firstOf
+        unfolding rowNumber rowStands firstOf
         too-many-quads g k = rw (p, le-leb 6 (length (getD fronts li [])) (rw hn at l), ← (rw hn at hr), s, le-ltb 4096 (length pts / 2 + length (getD fronts li [])) (rw hn at g), lt-ltb 4096 (quads + length (getD fronts li [])) (rw hn at k))
 
         pub stands : length pts / 2 + n ≤ 4096 → quads + n ≤ 4096 → 0 ≡ rowNumber j pts fronts quads li
-        unfolding rowNumber firstOf
+        unfolding rowNumber rowStands firstOf
         stands g k = rw (p, le-leb 6 (length (getD fronts li [])) (rw hn at l), ← (rw hn at hr), s, le-ltb 4096 (length pts / 2 + length (getD fronts li [])) (rw hn at g), le-ltb 4096 (quads + length (getD fronts li [])) (rw hn at k))
 
--- ---- what the projection's number says
+-- ---- what the projection's answer says
 
-pub refused-all : (b : Bool) (r : ℕ) → r ≡ cond b 0 22 → (r ≡ 0 → ⊥) → b ≡ false
-refused-all true r e n = absurd (n e)
-refused-all false r e n = refl
+-- of a front that was read as `old`
+module _ (pts : List Float) (h : Float) (old f : List ℕ) (r : Tried) (same : old ≡ f) (e : r ≡ tried (cond (allProject (nodeRing pts old) h) 0 22)) where
+  pub refused-all : (n : ℕ) → r ≡ Refused n → allProject (nodeRing pts f) h ≡ false
+  refused-all n g = go (allProject (nodeRing pts f) h) (rw same at e)
+    where
+      go : (b : Bool) → r ≡ tried (cond b 0 22) → b ≡ false
+      go true d = let z : _≡_ {A = ℕ} 0 1 = cc in absurd (zero-one z)
+      go false d = refl
 
-pub refused-22 : (b : Bool) (r : ℕ) → r ≡ cond b 0 22 → (r ≡ 0 → ⊥) → r ≡ 22
-refused-22 true r e n = absurd (n e)
-refused-22 false r e n = e
-
-pub passed-all : (b : Bool) (r : ℕ) → r ≡ cond b 0 22 → r ≡ 0 → b ≡ true
-passed-all true r e n = refl
-passed-all false r e n = absurd (twenty-two (sym e ∙ n))
+  pub passed-all : r ≡ Stands → allProject (nodeRing pts f) h ≡ true
+  passed-all g = go (allProject (nodeRing pts f) h) (rw same at e)
+    where
+      go : (b : Bool) → r ≡ tried (cond b 0 22) → b ≡ true
+      go true d = refl
+      go false d = let z : _≡_ {A = ℕ} 0 1 = cc in absurd (zero-one z)
 
 -- the new points of a front that was read as `old` and has n nodes
 pub projected-row : (pts : List Float) (h : Float) (old f : List ℕ) (n : ℕ) (row : List Float) → old ≡ f → n ≡ length f
@@ -116,3 +126,7 @@ pub projected-row : (pts : List Float) (h : Float) (old f : List ℕ) (n : ℕ) 
 projected-row pts h old f n row ho hn g =
     let g′ : take (length f * 2) row ≡ newPoints (nodeRing pts f) h (length f) = rw ho at g in
     rw hn g′
+
+-- the same by another name of their number
+pub renamed : (r : Ring) (h : Float) (row : List Float) (n m : ℕ) → n ≡ m → take (n * 2) row ≡ newPoints r h n → take (m * 2) row ≡ newPoints r h m
+renamed r h row n m e g = rw e at g

@@ -3,7 +3,7 @@ ghost use mathlib.Core.Path.{_≡_};
 ghost use Prim.Native.Nat.{ℕ, _*_, _+_, _<_, _≤_};
 ghost use lib.ListN.{getD, length};
 ghost use Rattle.geometry.specs.Domain.{sumOf, rings};
-ghost use Rattle.candidate.specs.Candidate.{allClearOf, allInside, allOffBoundary};
+ghost use Rattle.rules.specs.Checks.{allClearOf, allInside, allOffBoundary};
 
 // Every new point is in the domain.
 pub fn all_inside(coords: &[f64], loops: &[u16], row: &[f64], n: usize) -> bool

@@ -5,9 +5,9 @@ ghost use lib.Ieee.{lt};
 ghost use Rattle.float.specs.Helpers.{decimal};
 ghost use Rattle.geometry.specs.F64.{_⊗_};
 ghost use Rattle.geometry.specs.Measures.{sharpTurn, sideLength};
-ghost use Rattle.paving.specs.Projecting as projecting;
+ghost use Rattle.rules.specs.Projecting as projecting;
 use geometry::Point;
-use paving::Projection;
+use rules::Projection;
 
 // What a left turn above 30 degrees adds to the distance.
 fn extra(cross: f64, dot: f64, h: f64) -> f64

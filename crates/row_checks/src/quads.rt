@@ -5,7 +5,8 @@ ghost use mathlib.Core.Bool.{_&&_};
 ghost use Prim.Native.Nat.{ℕ, _*_, _+_, _<_, _≤_};
 ghost use lib.ListN.{getD, length};
 ghost use Rattle.geometry.specs.Measures.{cornersPass, sideLength};
-ghost use Rattle.candidate.specs.Candidate.{allCornersPass, allLongEnough};
+ghost use Rattle.rules.specs.Checks.{allLongEnough};
+ghost use Rattle.row_checks.specs.Candidate.{cornersBetween};
 use geometry::Point;
 use geometry::corner_passes;
 
@@ -39,7 +40,7 @@ fn corners_stand(
 pub fn all_quads_stand(points: &[f64], old: &[u16], row: &[f64], n: usize, least: f64) -> bool
     requires { ⌜ (0 < n) × (n * 2 ≤ length (now row)) × (n ≡ length (now old)) ⌝ }
     requires { ⌜ ((i : ℕ) → i < length (now old) → getD (now old) i 0 * 2 + 1 < length (now points)) ⌝ }
-    ensures { λ r. ⌜ r ≡ (allLongEnough least (now (row .entry)) n && allCornersPass (now (points .entry)) (now (old .entry)) (now (row .entry)) n) ⌝ }
+    ensures { λ r. ⌜ r ≡ (allLongEnough least (now (row .entry)) n && cornersBetween (now (points .entry)) (now (old .entry)) (now (row .entry)) n) ⌝ }
 {
     let mut a = geometry::node_point(points, old, 0);
     let mut d = geometry::point_at(row, 0);

@@ -1,34 +1,36 @@
-// A candidate row: the projections of a front's nodes, and the checks on them. Nothing lent is written here.
+// A row tried: the projections of a front's nodes, and the checks on them. Nothing lent is written here.
 ghost use mathlib.Core.Path.{_≡_};
 ghost use mathlib.Core.Bool.{cond};
 ghost use mathlib.Core.List.{[]};
-ghost use Prim.Native.Nat.{ℕ, _*_, _+_, _<_, _≤_};
+ghost use Prim.Native.Nat.{ℕ, _%_, _*_, _+_, _<_, _≤_};
 ghost use lib.ListN.{getD, length, take};
 ghost use Rattle.geometry.specs.Rings.{nodeRing};
-ghost use Rattle.paving.specs.Row.{newPoints};
-ghost use Rattle.candidate.specs.Candidate.{allProject, restStands, rowNumber};
+ghost use Rattle.row_checks.specs.Candidate as candidates;
+ghost use Rattle.rules.specs.Checks.{allProject, newPoints};
+ghost use Rattle.rules.specs.Row.{restStands, rowNumber};
 ghost use Rattle.geometry.specs.Domain.{sumOf};
-ghost use Rattle.sampling.specs.State.{cut};
-ghost use Rattle.sampling.specs.Call.{job};
-use crate::Front;
+ghost use Rattle.state.specs.State.{cut};
+ghost use Rattle.input.specs.Job.{job};
+use crate::Tried;
 use crate::checks::all_inside;
 use crate::checks::all_off_boundary;
 use crate::fronts::clear_of_fronts;
-use crate::fronts::front_at;
-use crate::fronts::nodes_of;
 use crate::projecting::project;
 use crate::quads::all_quads_stand;
 use crate::simple::is_simple;
-use paving::Projection;
-use sampling::Options;
+use input::Options;
+use rules::Projection;
+use state::Front;
+use state::front_at;
+use state::nodes_of;
 
-// The projections of the nodes, from the front of `row`; 22 when a node does not project. A side's length serves the nodes at both
+// The projections of the nodes, from the front of `row`; refused with 22 when a node does not project. A side's length serves the nodes at both
 // of its ends.
-pub fn project_row(points: &[f64], nodes: &[u16], h: f64, row: &mut [f64]) -> u32
+pub fn project_row(points: &[f64], nodes: &[u16], h: f64, row: &mut [f64]) -> Tried
     requires { ⌜ (0 < length (now nodes)) × (length (now nodes) * 2 ≤ length (now row)) ⌝ }
     requires { ⌜ ((i : ℕ) → i < length (now nodes) → getD (now nodes) i 0 * 2 + 1 < length (now points)) ⌝ }
-    ensures { λ r. ⌜ r ≡ cond (allProject (nodeRing (now (points .entry)) (now (nodes .entry))) h) 0 22 ⌝ }
-    ensures { λ r. ⌜ (r ≡ 0 → take (length (now (nodes .entry)) * 2) (now (row .exit)) ≡ newPoints (nodeRing (now (points .entry)) (now (nodes .entry))) h (length (now (nodes .entry)))) ⌝ }
+    ensures { λ r. ⌜ r ≡ candidates.tried (cond (allProject (nodeRing (now (points .entry)) (now (nodes .entry))) h) 0 22) ⌝ }
+    ensures { λ r. ⌜ (candidates.triedNumber r ≡ 0 → take (length (now (nodes .entry)) * 2) (now (row .exit)) ≡ newPoints (nodeRing (now (points .entry)) (now (nodes .entry))) h (length (now (nodes .entry)))) ⌝ }
 {
     let n = nodes.len();
     let last = geometry::prev_of(n, 0);
@@ -40,14 +42,14 @@ pub fn project_row(points: &[f64], nodes: &[u16], h: f64, row: &mut [f64]) -> u3
         let c = geometry::node_point(points, nodes, after);
         let l2 = geometry::side_length(b, c);
         let Projection::At(x, y) = project(a, b, c, l1, l2, h) else {
-            return 22;
+            return Tried::Refused(22);
         };
         geometry::put_point(row, i, x, y);
         a = b;
         b = c;
         l1 = l2;
     }
-    0
+    Tried::Stands
 }
 
 // The checks that follow the projection, on the new points `row` of front `li`. Each refuses with the same number, so the dear ones,
@@ -65,7 +67,7 @@ fn rest_stands(
     row: &[f64],
 ) -> bool
     requires { ⌜ (li < length (now lengths)) × (front .start ≡ sumOf (take li (now lengths))) × (front .len ≡ getD (now lengths) li 0) × (0 < front .len) × (front .len * 2 ≤ length (now row)) ⌝ }
-    requires { ⌜ (sumOf (now «loop_lengths») * 2 ≤ length (now coords)) × (sumOf (now lengths) ≤ length (now «front_nodes»)) ⌝ }
+    requires { ⌜ (sumOf (now «loop_lengths») * 2 ≤ length (now coords)) × (sumOf (now lengths) ≤ length (now «front_nodes»)) × (length (now points) % 2 ≡ 0) ⌝ }
     requires { ⌜ ((i : ℕ) → i < sumOf (now lengths) → getD (now «front_nodes») i 0 * 2 + 1 < length (now points)) ⌝ }
     ensures { λ r. ⌜ r ≡ restStands (job (now (coords .entry)) (now («loop_lengths» .entry)) h options) (now (points .entry)) (cut (now (lengths .entry)) (now («front_nodes» .entry))) li (now (row .entry)) ⌝ }
 {
@@ -95,8 +97,8 @@ fn rest_stands(
     is_simple(row, n)
 }
 
-// The number of a row on front `li`, where `quads` quads are laid: 0 when it stands. Its points are then the first of `row`.
-pub fn row_number(
+// A row on front `li` tried, where `quads` quads are laid. When it stands its points are the first of `row`.
+pub fn try_row(
     coords: &[f64],
     loop_lengths: &[u16],
     h: f64,
@@ -107,24 +109,23 @@ pub fn row_number(
     quads: usize,
     li: usize,
     row: &mut [f64],
-) -> u32
+) -> Tried
     requires { ⌜ (li < length (now lengths)) × (length (now lengths) ≤ 16) × (quads ≤ 4096) ⌝ }
-    requires { ⌜ (sumOf (now «loop_lengths») * 2 ≤ length (now coords)) × (sumOf (now lengths) ≤ length (now «front_nodes»)) × (getD (now lengths) li 0 * 2 ≤ length (now row)) ⌝ }
+    requires { ⌜ (sumOf (now «loop_lengths») * 2 ≤ length (now coords)) × (sumOf (now lengths) ≤ length (now «front_nodes»)) × (getD (now lengths) li 0 * 2 ≤ length (now row)) × (length (now points) % 2 ≡ 0) ⌝ }
     requires { ⌜ ((i : ℕ) → i < sumOf (now lengths) → getD (now «front_nodes») i 0 * 2 + 1 < length (now points)) ⌝ }
-    ensures { λ r. ⌜ r ≡ rowNumber (job (now (coords .entry)) (now («loop_lengths» .entry)) h options) (now (points .entry)) (cut (now (lengths .entry)) (now («front_nodes» .entry))) quads li ⌝ }
-    ensures { λ r. ⌜ (r ≡ 0 → take (getD (now (lengths .entry)) li 0 * 2) (now (row .exit)) ≡ newPoints (nodeRing (now (points .entry)) (getD (cut (now (lengths .entry)) (now («front_nodes» .entry))) li [])) h (getD (now (lengths .entry)) li 0)) ⌝ }
+    ensures { λ r. ⌜ r ≡ candidates.tried (rowNumber (job (now (coords .entry)) (now («loop_lengths» .entry)) h options) (now (points .entry)) (cut (now (lengths .entry)) (now («front_nodes» .entry))) quads li) ⌝ }
+    ensures { λ r. ⌜ (candidates.triedNumber r ≡ 0 → take (getD (now (lengths .entry)) li 0 * 2) (now (row .exit)) ≡ newPoints (nodeRing (now (points .entry)) (getD (cut (now (lengths .entry)) (now («front_nodes» .entry))) li [])) h (getD (now (lengths .entry)) li 0)) ⌝ }
 {
     let front = front_at(lengths, li);
     let start = front.start;
     let n = front.len;
     if n < 6 {
-        return 22;
+        return Tried::Refused(22);
     }
     let old = nodes_of(front_nodes, start, n);
-    let number = project_row(points, old, h, row);
-    if number != 0 {
-        return number;
-    }
+    let Tried::Stands = project_row(points, old, h, row) else {
+        return Tried::Refused(22);
+    };
     let m = n * 2;
     if !rest_stands(
         coords,
@@ -138,13 +139,13 @@ pub fn row_number(
         front,
         &row[..m],
     ) {
-        return 22;
+        return Tried::Refused(22);
     }
     if 4096 < points.len() / 2 + n {
-        return 21;
+        return Tried::Refused(21);
     }
     if 4096 < quads + n {
-        return 21;
+        return Tried::Refused(21);
     }
-    0
+    Tried::Stands
 }

@@ -5,7 +5,7 @@ ghost use Prim.Native.Nat.{_*_, _-_, _≤_};
 ghost use lib.Dec.{eqb};
 ghost use lib.ListN.{length};
 ghost use Rattle.geometry.specs.Rings.{ringOf};
-ghost use Rattle.paving.specs.Simple.{isSimple, search};
+ghost use Rattle.rules.specs.Simple.{isSimple, search};
 
 // Where the sides end that side `i` is tested with: the last is the first's neighbour.
 fn end_of(n: usize, i: usize) -> usize

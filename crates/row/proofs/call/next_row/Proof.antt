@@ -1,7 +1,7 @@
--- `rows::call::next_row` meets its contract.
+-- `row::call::next_row` meets its contract.
 use borrow.Author.Needs.{needs}
-use Rattle.rows.proofs.call.next_row.Statement.{statement}
-use Rattle.rows.proofs.call.next_row.Tie as tie
+use Rattle.row.proofs.call.next_row.Statement.{statement}
+use Rattle.row.proofs.call.next_row.Tie as tie
 
 row-on-requires : tie.Need-row-on-requires
 row-on-requires c κs =

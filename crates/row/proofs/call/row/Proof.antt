@@ -1,4 +1,4 @@
--- `rows::call::row` meets its contract.
+-- `row::call::row` meets its contract.
 use Rattle.paving.specs.RowCall.{rowAt, rowCall}
 use mathlib.Core.Path.{_≡_, sym, _∙_, ap}
 use mathlib.Core.Bool.{true≢false}
@@ -10,8 +10,8 @@ use Rattle.sampling.specs.Call.{job, held}
 use Rattle.rows.proofs.Sounding.{sound}
 use Rattle.rows.proofs.Calling.{right-lengths, outline-read, input-refuses, state-refuses, no-front, state-stands, a-front}
 use borrow.Author.Needs.{needs}
-use Rattle.rows.proofs.call.row.Statement.{statement}
-use Rattle.rows.proofs.call.row.Tie as tie
+use Rattle.row.proofs.call.row.Statement.{statement}
+use Rattle.row.proofs.call.row.Tie as tie
 
 -- `rows::call::row` meets its contract.
 

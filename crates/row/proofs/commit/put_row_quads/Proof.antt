@@ -1,4 +1,4 @@
--- `rows::commit::put_row_quads` meets its contract. The invariant: i of the row's quads are written. The measure is the quads left.
+-- `row::commit::put_row_quads` meets its contract. The invariant: i of the row's quads are written. The measure is the quads left.
 use mathlib.Core.Path.{_≡_, refl, _∙_}
 use Prim.Native.Nat.{_-_, _≤_}
 use native.Mathlib.Omega.{arith}
@@ -9,8 +9,8 @@ use mathlib.Core.List.{map}
 use Rattle.sampling.specs.State.{quadNodes, joined}
 use Rattle.paving.specs.Row.{rowQuads}
 use Rattle.rows.proofs.Growing.{quads-more}
-use Rattle.rows.proofs.commit.put_row_quads.Statement.{statement}
-use Rattle.rows.proofs.commit.put_row_quads.Tie as tie
+use Rattle.row.proofs.commit.put_row_quads.Statement.{statement}
+use Rattle.row.proofs.commit.put_row_quads.Tie as tie
 
 abbrev Inv-loop : tie.InvT-loop
 Inv-loop quads₀ at old first n i₀ quads i = (i ≤ n) × (length quads ≡ length quads₀) × (quads ≡ sets quads₀ at (joined (map quadNodes (rowQuads old first i))))

@@ -1,4 +1,4 @@
--- `rows::laying::lay_row` meets its contract.
+-- `row::laying::lay_row` meets its contract.
 use mathlib.Core.Path.{_≡_, sym, _∙_, ap}
 use Prim.Native.Nat.{_≤_}
 use native.Mathlib.Omega.{arith}
@@ -11,8 +11,8 @@ use Rattle.rows.specs.Sound.{sizesOf}
 use Rattle.candidate.proofs.Cutting.{pairs-within, part-is, cut-length}
 use Rattle.rows.proofs.Writing.{laid-is}
 use borrow.Author.Needs.{needs}
-use Rattle.rows.proofs.laying.lay_row.Statement.{statement}
-use Rattle.rows.proofs.laying.lay_row.Tie as tie
+use Rattle.row.proofs.laying.lay_row.Statement.{statement}
+use Rattle.row.proofs.laying.lay_row.Tie as tie
 
 slice-read-count : tie.Need-slice-read-count
 slice-read-count c = search needs

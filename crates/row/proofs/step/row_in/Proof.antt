@@ -1,4 +1,4 @@
--- `rows::step::row_in` meets its contract.
+-- `row::step::row_in` meets its contract.
 use mathlib.Core.Path.{sym, _∙_, ap}
 use Prim.Native.Nat.{_*_, _≤_, _<_}
 use native.Mathlib.Omega.{arith}
@@ -13,8 +13,8 @@ use Rattle.rows.proofs.Reading.{sizes-long, fits, sound-counted}
 use Rattle.rows.proofs.Zeros.{same-state, still-sound, now-clean, same-room}
 use Rattle.rows.proofs.Stepping.{read-below, refuses, lays, row-read, has-room}
 use borrow.Author.Needs.{needs}
-use Rattle.rows.proofs.step.row_in.Statement.{statement}
-use Rattle.rows.proofs.step.row_in.Tie as tie
+use Rattle.row.proofs.step.row_in.Statement.{statement}
+use Rattle.row.proofs.step.row_in.Tie as tie
 
 slice-read-count : tie.Need-slice-read-count
 slice-read-count c = search needs

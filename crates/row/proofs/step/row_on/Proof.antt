@@ -1,4 +1,4 @@
--- `rows::step::row_on` meets its contract.
+-- `row::step::row_on` meets its contract.
 use Prim.Native.Nat.{_<_}
 use native.Mathlib.Omega.{arith}
 use lib.ListN.{length}
@@ -9,8 +9,8 @@ use Rattle.rows.specs.Sound.{sizesOf}
 use Rattle.candidate.proofs.Cutting.{pairs-within}
 use Rattle.rows.proofs.Reading.{sizes-long, sound-counted}
 use borrow.Author.Needs.{needs}
-use Rattle.rows.proofs.step.row_on.Statement.{statement}
-use Rattle.rows.proofs.step.row_on.Tie as tie
+use Rattle.row.proofs.step.row_on.Statement.{statement}
+use Rattle.row.proofs.step.row_on.Tie as tie
 
 mul-if1 : tie.Need-mul-if1
 mul-if1 c = search needs

@@ -1,4 +1,4 @@
--- `candidate::checks::all_clear_of` meets its contract. The invariant: the points passed are clear of the front. The measure is the points left.
+-- `row_checks::checks::all_clear_of` meets its contract. The invariant: the points passed are clear of the front. The measure is the points left.
 use mathlib.Core.Path.{_≡_}
 use mathlib.Core.Bool.{true, false, not}
 use Prim.Native.Nat.{_≤_, _-_}
@@ -6,13 +6,13 @@ use native.Mathlib.Omega.{arith}
 use borrow.Author.Needs.{needs}
 use lib.Ieee.{inf, lt}
 use lib.ListN.{length}
-use Rattle.paving.specs.Row.{every}
+use Rattle.rules.specs.Checks.{every}
 use Rattle.geometry.specs.declared.Point.{Point}
 use Rattle.geometry.specs.Rings.{pointAt, nodeRing}
 use Rattle.geometry.specs.Measures.{ringDistance}
-use Rattle.candidate.proofs.Every.{every-none, every-more, every-stops, every-end, moved, too-near, far-enough}
-use Rattle.candidate.proofs.checks.all_clear_of.Statement.{statement}
-use Rattle.candidate.proofs.checks.all_clear_of.Tie as tie
+use Rattle.rules.proofs.Every.{every-none, every-more, every-stops, every-end, moved, too-near, far-enough}
+use Rattle.row_checks.proofs.checks.all_clear_of.Statement.{statement}
+use Rattle.row_checks.proofs.checks.all_clear_of.Tie as tie
 
 abbrev Inv-loop : tie.InvT-loop
 Inv-loop points nodes row n least i₀ i = (i ≤ n) × (every (λ i. not (lt (ringDistance (inf false) (pointAt row i) (nodeRing points nodes) (length nodes)) least)) i ≡ true)

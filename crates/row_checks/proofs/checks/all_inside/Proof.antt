@@ -1,4 +1,4 @@
--- `candidate::checks::all_inside` meets its contract. The invariant: the points passed are in the domain. The measure is the points left.
+-- `row_checks::checks::all_inside` meets its contract. The invariant: the points passed are in the domain. The measure is the points left.
 use mathlib.Core.Path.{_≡_}
 use mathlib.Core.Bool.{true}
 use Prim.Native.Nat.{_≤_, _-_}
@@ -6,10 +6,10 @@ use native.Mathlib.Omega.{arith}
 use borrow.Author.Tests.{not-true, not-false}
 use Rattle.geometry.specs.Rings.{pointAt}
 use Rattle.geometry.specs.Domain.{contains, rings}
-use Rattle.paving.specs.Row.{every}
-use Rattle.candidate.proofs.Every.{every-none, every-more, every-stops, every-end, seen}
-use Rattle.candidate.proofs.checks.all_inside.Statement.{statement}
-use Rattle.candidate.proofs.checks.all_inside.Tie as tie
+use Rattle.rules.specs.Checks.{every}
+use Rattle.rules.proofs.Every.{every-none, every-more, every-stops, every-end, seen}
+use Rattle.row_checks.proofs.checks.all_inside.Statement.{statement}
+use Rattle.row_checks.proofs.checks.all_inside.Tie as tie
 
 abbrev Inv-loop : tie.InvT-loop
 Inv-loop coords loops row n i₀ i = (i ≤ n) × (every (λ i. contains (rings coords loops) (pointAt row i)) i ≡ true)

@@ -1,15 +1,15 @@
--- `candidate::checks::all_off_boundary` meets its contract. The invariant: the points passed are off the boundary. The measure is the points left.
+-- `row_checks::checks::all_off_boundary` meets its contract. The invariant: the points passed are off the boundary. The measure is the points left.
 use mathlib.Core.Path.{_≡_}
 use mathlib.Core.Bool.{true, not}
 use Prim.Native.Nat.{_≤_, _-_}
 use native.Mathlib.Omega.{arith}
 use lib.Ieee.{lt}
-use Rattle.paving.specs.Row.{every}
+use Rattle.rules.specs.Checks.{every}
 use Rattle.geometry.specs.Rings.{pointAt}
 use Rattle.geometry.specs.Domain.{distanceToBoundary, rings}
-use Rattle.candidate.proofs.Every.{every-none, every-more, every-stops, every-end, moved, too-near, far-enough}
-use Rattle.candidate.proofs.checks.all_off_boundary.Statement.{statement}
-use Rattle.candidate.proofs.checks.all_off_boundary.Tie as tie
+use Rattle.rules.proofs.Every.{every-none, every-more, every-stops, every-end, moved, too-near, far-enough}
+use Rattle.row_checks.proofs.checks.all_off_boundary.Statement.{statement}
+use Rattle.row_checks.proofs.checks.all_off_boundary.Tie as tie
 
 abbrev Inv-loop : tie.InvT-loop
 Inv-loop coords loops row n least i₀ i = (i ≤ n) × (every (λ i. not (lt (distanceToBoundary (rings coords loops) (pointAt row i)) least)) i ≡ true)

@@ -1,4 +1,4 @@
--- `candidate::fronts::clear_of_fronts` meets its contract. The invariant: `start` is where the next front stands, and the fronts passed are clear. The measure is the fronts left.
+-- `row_checks::fronts::clear_of_fronts` meets its contract. The invariant: `start` is where the next front stands, and the fronts passed are clear. The measure is the fronts left.
 use mathlib.Core.Path.{_≡_, refl, _∙_, ap, sym}
 use mathlib.Core.Bool.{Bool, true, false, _||_}
 use mathlib.Core.List.{List, []}
@@ -9,13 +9,12 @@ use borrow.Author.Tests.{not-true, not-false}
 use lib.Dec.{eqb}
 use lib.ListN.{length, take, getD}
 use Rattle.geometry.specs.Domain.{sumOf}
-use Rattle.sampling.specs.State.{cut}
-use Rattle.paving.specs.Row.{every}
-use Rattle.candidate.specs.Candidate.{allClearOf}
-use Rattle.candidate.proofs.Every.{every-none, every-more, every-stops, every-end, seen}
-use Rattle.candidate.proofs.Cutting.{pairs-more, pairs-within, part-of-all, part-is, length-cut}
-use Rattle.candidate.proofs.fronts.clear_of_fronts.Statement.{statement}
-use Rattle.candidate.proofs.fronts.clear_of_fronts.Tie as tie
+use Rattle.state.specs.State.{cut}
+use Rattle.rules.specs.Checks.{every, allClearOf}
+use Rattle.rules.proofs.Every.{every-none, every-more, every-stops, every-end, seen}
+use Rattle.state.proofs.Cutting.{pairs-more, pairs-within, part-of-all, part-is, length-cut}
+use Rattle.row_checks.proofs.fronts.clear_of_fronts.Statement.{statement}
+use Rattle.row_checks.proofs.fronts.clear_of_fronts.Tie as tie
 
 abbrev Inv-loop : tie.InvT-loop
 Inv-loop points front-nodes lengths li row n least start₀ other₀ start other = (other ≤ length lengths) × (start ≡ sumOf (take other lengths)) × (every (λ k. eqb k li || allClearOf points (getD (cut lengths front-nodes) k []) least row n) other ≡ true)

@@ -1,7 +1,7 @@
--- `candidate::fronts::own_or_clear` meets its contract.
+-- `row_checks::fronts::own_or_clear` meets its contract.
 use borrow.Author.Needs.{needs}
-use Rattle.candidate.proofs.fronts.own_or_clear.Statement.{statement}
-use Rattle.candidate.proofs.fronts.own_or_clear.Tie as tie
+use Rattle.row_checks.proofs.fronts.own_or_clear.Statement.{statement}
+use Rattle.row_checks.proofs.fronts.own_or_clear.Tie as tie
 
 returns : tie.Need-returns
 returns c = search needs

@@ -1,9 +1,9 @@
--- `candidate::projecting::extra` meets its contract.
+-- `row_checks::projecting::extra` meets its contract.
 use Rattle.geometry.proofs.Literals.{zero-is}
-use Rattle.candidate.proofs.Literals.{quarter-is}
+use Rattle.row_checks.proofs.Literals.{quarter-is}
 use borrow.Author.Needs.{needs}
-use Rattle.candidate.proofs.projecting.extra.Statement.{statement}
-use Rattle.candidate.proofs.projecting.extra.Tie as tie
+use Rattle.row_checks.proofs.projecting.extra.Statement.{statement}
+use Rattle.row_checks.proofs.projecting.extra.Tie as tie
 
 sharp-turn-requires : tie.Need-sharp-turn-requires
 sharp-turn-requires c κs = search needs

@@ -1,10 +1,10 @@
--- `candidate::projecting::project` meets its contract.
+-- `row_checks::projecting::project` meets its contract.
 use Rattle.geometry.proofs.Literals.{tiny-is, two-is, three-is}
-use Rattle.candidate.proofs.Literals.{nano-is, fifth-is}
-use Rattle.candidate.proofs.Projects.{short-before, short-after, no-bisector, too-acute, projected}
+use Rattle.row_checks.proofs.Literals.{nano-is, fifth-is}
+use Rattle.row_checks.proofs.Projects.{short-before, short-after, no-bisector, too-acute, projected}
 use borrow.Author.Needs.{needs}
-use Rattle.candidate.proofs.projecting.project.Statement.{statement}
-use Rattle.candidate.proofs.projecting.project.Tie as tie
+use Rattle.row_checks.proofs.projecting.project.Statement.{statement}
+use Rattle.row_checks.proofs.projecting.project.Tie as tie
 
 returns : tie.Need-returns
 returns c = short-before _ _ _ _ _ _ (c .before .pre .0) (c .before .pre .1) (rw tiny-is at (c .if1 .taken))

@@ -1,4 +1,4 @@
--- `candidate::quads::all_quads_stand` meets its contract. The invariant: the sides passed are long enough and the quads passed have good corners, and the turn has its rung and the rung's length. The measure is the quads left.
+-- `row_checks::quads::all_quads_stand` meets its contract. The invariant: the sides passed are long enough and the quads passed have good corners, and the turn has its rung and the rung's length. The measure is the quads left.
 use mathlib.Core.Path.{_≡_, sym, _∙_, ap}
 use mathlib.Core.Bool.{true, _&&_}
 use Prim.Native.Nat.{ℕ, _≤_, _<_, _-_}
@@ -6,14 +6,14 @@ use native.Mathlib.Omega.{arith}
 use borrow.Author.Needs.{needs}
 use borrow.Author.Tests.{not-true, not-false}
 use lib.ListN.{length, getD}
-use Rattle.paving.specs.Row.{every}
+use Rattle.rules.specs.Checks.{every}
 use Rattle.geometry.specs.Rings.{pointAt, next}
 use Rattle.geometry.specs.Measures.{sideLength}
-use Rattle.candidate.proofs.Basics.{and-false}
-use Rattle.candidate.proofs.Every.{every-none, every-more, every-stops, every-end, too-near, far-enough}
-use Rattle.candidate.proofs.Sides.{longEnough, cornersGood, next-inner, side-of, corners-of}
-use Rattle.candidate.proofs.quads.all_quads_stand.Statement.{statement}
-use Rattle.candidate.proofs.quads.all_quads_stand.Tie as tie
+use Rattle.state.proofs.Basics.{and-false}
+use Rattle.rules.proofs.Every.{every-none, every-more, every-stops, every-end, too-near, far-enough}
+use Rattle.row_checks.proofs.Sides.{longEnough, cornersGood, next-inner, side-of, corners-of}
+use Rattle.row_checks.proofs.quads.all_quads_stand.Statement.{statement}
+use Rattle.row_checks.proofs.quads.all_quads_stand.Tie as tie
 
 abbrev Inv-loop : tie.InvT-loop
 Inv-loop points old row n least a₀ d₀ rung₀ i₀ a d rung i =

@@ -1,11 +1,11 @@
--- `candidate::quads::corners_stand` meets its contract. Each length serves the corners at both ends of its side.
+-- `row_checks::quads::corners_stand` meets its contract. Each length serves the corners at both ends of its side.
 use mathlib.Core.Path.{_∙_}
 use Rattle.geometry.specs.Measures.{cornersPass}
 use Rattle.geometry.proofs.Flip.{length-flip}
 use borrow.Author.Tests.{not-true, not-false}
 use borrow.Author.Needs.{needs}
-use Rattle.candidate.proofs.quads.corners_stand.Statement.{statement}
-use Rattle.candidate.proofs.quads.corners_stand.Tie as tie
+use Rattle.row_checks.proofs.quads.corners_stand.Statement.{statement}
+use Rattle.row_checks.proofs.quads.corners_stand.Tie as tie
 
 corner-passes-requires : tie.Need-corner-passes-requires
 corner-passes-requires c κs = search needs

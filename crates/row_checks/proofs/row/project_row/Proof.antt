@@ -1,4 +1,4 @@
--- `candidate::row::project_row` meets its contract. The invariant: the nodes passed project, their points stand at the front of the row, and the turn has the node before, its own and the length of the side between. The measure is the nodes left.
+-- `row_checks::row::project_row` meets its contract. The invariant: the nodes passed project, their points stand at the front of the row, and the turn has the node before, its own and the length of the side between. The measure is the nodes left.
 use mathlib.Core.Path.{_≡_, refl, ap, _∙_}
 use mathlib.Core.Bool.{true, cond}
 use Prim.Native.Nat.{_≤_, _<_, _-_, _*_}
@@ -8,12 +8,13 @@ use lib.ListN.{length}
 use lib.Seq.{sets}
 use Rattle.geometry.specs.Rings.{Ring, nodeRing, prev}
 use Rattle.geometry.specs.Measures.{sideLength}
-use Rattle.candidate.proofs.Basics.{twenty-two}
-use Rattle.paving.specs.Row.{every, newPoints}
-use Rattle.candidate.proofs.Every.{every-none, every-more, every-stops, every-end}
-use Rattle.candidate.proofs.Building.{projects, projected-at, handed-on, fails, passes, points-more, length-more, row-more, row-done}
-use Rattle.candidate.proofs.row.project_row.Statement.{statement}
-use Rattle.candidate.proofs.row.project_row.Tie as tie
+use Rattle.state.proofs.Basics.{twenty-two}
+use Rattle.rules.specs.Checks.{every, newPoints}
+use Rattle.row_checks.specs.Candidate.{tried}
+use Rattle.rules.proofs.Every.{every-none, every-more, every-stops, every-end}
+use Rattle.row_checks.proofs.Building.{projects, projected-at, handed-on, fails, passes, points-more, length-more, row-more, row-done}
+use Rattle.row_checks.proofs.row.project_row.Statement.{statement}
+use Rattle.row_checks.proofs.row.project_row.Tie as tie
 
 abbrev Inv-loop : tie.InvT-loop
 Inv-loop points nodes h row₀ n last a₀ b₀ l1₀ i₀ row a b l1 i =
@@ -84,7 +85,7 @@ returns c =
     let l = at-loop-test .loop-test .taken in
     let r : Ring = nodeRing (a .points .now) (a .nodes .now) in
     let e = projected-at r (a .h) (t .loop .i) _ _ _ _ _ (c .before .before .project .ensures) (t .loop .inv .6 l) (at-node-point3 .node-point3 .ensures) (at-next-of .next-of .ensures .0) in
-    (ap (λ b. cond b 0 22) (every-stops (projects r (a .h)) _ _ l (fails r (a .h) (t .loop .i) _ e (c .enum-told .given .1))), λ f. absurd (twenty-two f))
+    (ap (λ b. tried (cond b 0 22)) (every-stops (projects r (a .h)) _ _ l (fails r (a .h) (t .loop .i) _ e (c .enum-told .given .1))), λ f. absurd (twenty-two f))
 
 put-point-requires : tie.Need-put-point-requires Inv-loop μ-loop
 put-point-requires c κs =
@@ -142,7 +143,7 @@ returns-2 c =
     let t = c .before in
     let r : Ring = nodeRing (a .points .now) (a .nodes .now) in
     let e : t .loop .i ≡ length (a .nodes .now) = omega arith in (
-      ap (λ b. cond b 0 22) (every-end (projects r (a .h)) _ _ (t .loop .inv .1) e),
+      ap (λ b. tried (cond b 0 22)) (every-end (projects r (a .h)) _ _ (t .loop .inv .1) e),
       λ _. row-done r (a .h) _ (a .row .now) _ (rw e at (t .loop .inv .4)) (rw e at (t .loop .inv .2)) (entry .pre .0 .1),
     )
 

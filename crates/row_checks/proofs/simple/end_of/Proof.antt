@@ -1,8 +1,8 @@
--- `candidate::simple::end_of` meets its contract.
+-- `row_checks::simple::end_of` meets its contract.
 use borrow.Author.Tests.{eq-eqb, ne-eqb}
 use borrow.Author.Needs.{needs}
-use Rattle.candidate.proofs.simple.end_of.Statement.{statement}
-use Rattle.candidate.proofs.simple.end_of.Tie as tie
+use Rattle.row_checks.proofs.simple.end_of.Statement.{statement}
+use Rattle.row_checks.proofs.simple.end_of.Tie as tie
 
 sub-result : tie.Need-sub-result
 sub-result c = search needs

@@ -1,9 +1,9 @@
--- `candidate::simple::is_simple` meets its contract.
+-- `row_checks::simple::is_simple` meets its contract.
 use borrow.Author.Tests.{lt-leb, le-leb}
-use Rattle.paving.specs.Simple.{isSimple}
+use Rattle.rules.specs.Simple.{isSimple}
 use borrow.Author.Needs.{needs}
-use Rattle.candidate.proofs.simple.is_simple.Statement.{statement}
-use Rattle.candidate.proofs.simple.is_simple.Tie as tie
+use Rattle.row_checks.proofs.simple.is_simple.Statement.{statement}
+use Rattle.row_checks.proofs.simple.is_simple.Tie as tie
 
 returns : tie.Need-returns
 unfolding isSimple

@@ -1,15 +1,16 @@
--- `candidate::simple::sides_cross` meets its contract. The invariants: no crossing was found by the definition's search of the sides passed, and of this side with those passed. The measures are the sides left.
+-- `row_checks::simple::sides_cross` meets its contract. The invariants: no crossing was found by the definition's search of the sides passed, and of this side with those passed. The measures are the sides left.
 use mathlib.Core.Path.{_≡_, refl, _∙_, sym}
 use mathlib.Core.Bool.{true, false}
 use Prim.Native.Nat.{_+_, _≤_, _-_}
 use native.Mathlib.Omega.{arith}
 use borrow.Author.Needs.{needs}
 use Rattle.geometry.specs.Rings.{Ring, ringOf, next}
-use Rattle.paving.specs.Simple.{search as searchOf, searchSide}
-use Rattle.candidate.proofs.Sides.{next-inner}
-use Rattle.candidate.proofs.Searching.{end-within, not-neighbours, sides-cross, tested, side-more, side-begun, side-ended, side-done, last-two, found, none-yet}
-use Rattle.candidate.proofs.simple.sides_cross.Statement.{statement}
-use Rattle.candidate.proofs.simple.sides_cross.Tie as tie
+use Rattle.rules.specs.Simple.{search as searchOf}
+use Rattle.rules.specs.Simple.{searchSide}
+use Rattle.row_checks.proofs.Sides.{next-inner}
+use Rattle.row_checks.proofs.Searching.{end-within, not-neighbours, sides-cross, tested, side-more, side-begun, side-ended, side-done, last-two, found, none-yet}
+use Rattle.row_checks.proofs.simple.sides_cross.Statement.{statement}
+use Rattle.row_checks.proofs.simple.sides_cross.Tie as tie
 
 abbrev Inv-loop : tie.InvT-loop
 Inv-loop ring n crossed₀ i a b end j₀ i-end crossed j = (i + 2 ≤ j) × (j ≤ end) × (crossed ≡ false) × (searchSide (ringOf ring n) i (j - (i + 1)) (searchOf (ringOf ring n) i) .crossed ≡ false)
