@@ -1,5 +1,4 @@
-pub mod Laying
+pub mod Quads
 pub mod Fitting
 pub mod Writing
-pub mod Agreeing
 pub mod Stepping

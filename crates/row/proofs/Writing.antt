@@ -9,16 +9,19 @@ use lib.ListN.{length, getD, take, drop, set, length-append, length-set, length-
 use lib.Seq.{sets, sets-eq, length-sets, take-at, drop-at, length-take-le}
 use Rattle.float.specs.Helpers.{decimal}
 use Rattle.geometry.specs.Domain.{sumOf}
-use Rattle.sampling.specs.State.{Held, cut, nodes, written, reading}
-use Rattle.sampling.specs.Call.{held}
-use Rattle.sampling.specs.Sample.{numbered}
-use Rattle.paving.specs.Row.{front, rowQuads}
-use Rattle.rows.specs.Sound.{Sound, Clean, Room, sizesOf}
-use Rattle.candidate.specs.Candidate.{laidOn}
-use Rattle.candidate.proofs.Cutting.{joined-cut, lengths-cut, cut-length, pairs-within}
-use Rattle.rows.proofs.Growing.{take-before, drop-before, extended, replaced, numbers, numbers-append, length-numbers, length-quads, length-numbered}
-use Rattle.rows.proofs.Reading.{Counted, sound-counted, fits, points-long, nodes-read, quads-read, fronts-read, quad-nodes-read}
-use Rattle.rows.proofs.Zeros.{same-lent, points-held, quads-held, nodes-held, lengths-held}
+use Rattle.state.specs.declared.Counts.{Counts}
+use Rattle.state.specs.Limits.{frontNodeLimit, pointsLength, quadsLength}
+use Rattle.state.specs.State.{Held, cut, nodes, numbered, written, reading}
+use Rattle.state.specs.Call.{held}
+use Rattle.state.specs.Sound.{Sound, Clean, sizesOf}
+use Rattle.state.proofs.Cutting.{joined-cut, lengths-cut, cut-length, pairs-within}
+use Rattle.state.proofs.Growing.{take-before, drop-before, extended, replaced, numbers, numbers-append, length-numbers, length-numbered}
+use Rattle.state.proofs.Reading.{Counted, sound-counted, fits, points-long, nodes-read, quads-read, fronts-read, quad-nodes-read}
+use Rattle.state.proofs.Zeros.{same-held, points-held, quads-held, nodes-held, lengths-held}
+use Rattle.rules.specs.Checks.{rowQuads}
+use Rattle.rules.specs.Row.{front, committed}
+use Rattle.row_checks.proofs.Agreeing.{length-quads}
+use Rattle.row.specs.Room.{Room}
 
 -- ---- a front replaced where it stands
 
@@ -61,75 +64,87 @@ module _ (b : Held) (sound : Sound b) (clean : Clean b) (li n : ℕ) (row : List
   unfolding after
   fits-after = rw (length-sets (b .frontNodes) start (numbered (b .counts .points) n)) (fits b counted)
 
-  points-field : sets (b .points) (b .counts .points * 2) row ≡ written (laidOn (reading b) li row) .points
-  unfolding written laidOn reading
+  points-field : sets (b .points) (b .counts .points * 2) row ≡ written (committed (reading b) li row) .points
+  unfolding written committed reading
   points-field =
       let r = room .points in let m = room .row in
-      extended (decimal 0 0) (b .points) (take (b .counts .points * 2) (b .points)) 8192 (b .counts .points * 2) (ap (λ (l : Held). l .points) clean ∙ points-held b sound) (points-long b counted) row (omega arith)
+      extended (decimal 0 0) (b .points) (take (b .counts .points * 2) (b .points)) pointsLength (b .counts .points * 2) (ap (λ (l : Held). l .points) clean ∙ points-held b sound) (points-long b counted) row (omega arith)
 
   quads-long : (old : List ℕ) → length old ≡ n → length (numbers (rowQuads old (b .counts .points) (length old))) ≡ n * 4
   quads-long old e = length-numbers (rowQuads old (b .counts .points) (length old)) ∙ rw (length-quads old (b .counts .points) (length old), e)
 
-  quads-field : (old : List ℕ) → old ≡ front (reading b) li → sets (b .quads) (b .counts .quads * 4) (numbers (rowQuads old (b .counts .points) (length old))) ≡ written (laidOn (reading b) li row) .quads
-  unfolding written laidOn
+  quads-field : (old : List ℕ) → old ≡ front (reading b) li → sets (b .quads) (b .counts .quads * 4) (numbers (rowQuads old (b .counts .points) (length old))) ≡ written (committed (reading b) li row) .quads
+  unfolding written committed
   quads-field old ho =
       let h = sound .quadsLong in let g = sound .quads in let r = room .quads in
       let m = quads-long old (ap length ho ∙ sym old-length) in
       let q = numbers (rowQuads old (b .counts .points) (length old)) in
-      extended 0 (b .quads) (take (b .counts .quads * 4) (b .quads)) 16384 (b .counts .quads * 4) (ap (λ (l : Held). l .quads) clean ∙ quads-held b sound) (length-take-le (b .counts .quads * 4) (b .quads) (omega arith)) q (omega arith)
+      extended 0 (b .quads) (take (b .counts .quads * 4) (b .quads)) quadsLength (b .counts .quads * 4) (ap (λ (l : Held). l .quads) clean ∙ quads-held b sound) (length-take-le (b .counts .quads * 4) (b .quads) (omega arith)) q (omega arith)
       ∙ rw (ho, nodes-read b counted, numbers-append (reading b .quads) _, quad-nodes-read b counted)
 
-  quads-of-cut : (old : List ℕ) → old ≡ getD (cut (sizesOf b) (b .frontNodes)) li [] → sets (b .quads) (b .counts .quads * 4) (numbers (rowQuads old (b .counts .points) (length old))) ≡ written (laidOn (reading b) li row) .quads
+  quads-of-cut : (old : List ℕ) → old ≡ getD (cut (sizesOf b) (b .frontNodes)) li [] → sets (b .quads) (b .counts .quads * 4) (numbers (rowQuads old (b .counts .points) (length old))) ≡ written (committed (reading b) li row) .quads
   unfolding reading
   quads-of-cut = quads-field
 
-  nodes-field : after ≡ written (laidOn (reading b) li row) .frontNodes
-  unfolding written laidOn after
+  nodes-field : after ≡ written (committed (reading b) li row) .frontNodes
+  unfolding written committed after
   nodes-field =
       let w = pairs-within (sizesOf b) li (room .front) in
       let l = length-numbered (b .counts .points) n in
-      replaced 0 (b .frontNodes) (take total (b .frontNodes)) 2048 total (ap (λ (l : Held). l .frontNodes) clean ∙ nodes-held b sound) (length-take-le total (b .frontNodes) (fits b counted)) (numbered (b .counts .points) n) start (omega arith)
+      replaced 0 (b .frontNodes) (take total (b .frontNodes)) frontNodeLimit total (ap (λ (l : Held). l .frontNodes) clean ∙ nodes-held b sound) (length-take-le total (b .frontNodes) (fits b counted)) (numbered (b .counts .points) n) start (omega arith)
       ∙ sym (rw (new-front, joined-cut (sizesOf b) after fits-after, length-take-le total after fits-after))
 
-  lengths-field : b .frontLengths ≡ written (laidOn (reading b) li row) .frontLengths
-  unfolding written laidOn
+  lengths-field : b .frontLengths ≡ written (committed (reading b) li row) .frontLengths
+  unfolding written committed
   lengths-field = ap (λ (l : Held). l .frontLengths) clean ∙ lengths-held b sound ∙ sym (rw (new-front, lengths-cut (sizesOf b) after fits-after))
 
-  points-count : nodes (laidOn (reading b) li row) ≡ b .counts .points + n
-  unfolding laidOn reading
+  points-count : nodes (committed (reading b) li row) ≡ b .counts .points + n
+  unfolding committed reading
   points-count = let e = length-append (take (b .counts .points * 2) (b .points)) row in let f = points-long b counted in let m = room .row in omega arith
 
-  quads-after : length (laidOn (reading b) li row .quads) ≡ b .counts .quads + n
-  unfolding laidOn
+  quads-after : length (committed (reading b) li row .quads) ≡ b .counts .quads + n
+  unfolding committed
   quads-after = rw (length-append (reading b .quads) _, quads-read b counted, length-quads, ← old-length)
 
-  fronts-after : length (laidOn (reading b) li row .fronts) ≡ b .counts .fronts
-  unfolding laidOn
+  fronts-after : length (committed (reading b) li row .fronts) ≡ b .counts .fronts
+  unfolding committed
   fronts-after = length-set (reading b .fronts) li _ ∙ fronts-read b counted
 
-  row-quads-after : laidOn (reading b) li row .rowQuads ≡ b .counts .«row_quads» + n
-  unfolding laidOn reading
+  row-quads-after : committed (reading b) li row .rowQuads ≡ b .counts .«row_quads» + n
+  unfolding committed reading
   row-quads-after = rw (← old-length)
 
-  laid-after : laidOn (reading b) li row .laid ≡ b .counts .quads + n
-  unfolding laidOn
+  laid-after : committed (reading b) li row .laid ≡ b .counts .quads + n
+  unfolding committed
   laid-after = rw (quads-read b counted, ← old-length)
 
-  others-after : (laidOn (reading b) li row .coreQuads ≡ b .counts .«core_quads») × (laidOn (reading b) li row .rowRounds ≡ b .counts .«row_rounds» + 1) × (laidOn (reading b) li row .passes ≡ b .counts .«passes_begun»)
-  unfolding laidOn reading
+  others-after : (committed (reading b) li row .coreQuads ≡ b .counts .«core_quads») × (committed (reading b) li row .rowRounds ≡ b .counts .«row_rounds» + 1) × (committed (reading b) li row .passes ≡ b .counts .«passes_begun»)
+  unfolding committed reading
   others-after = (refl, refl, refl)
 
-  counts-field : (b .counts .points + n) ∷ (b .counts .quads + n) ∷ b .counts .fronts ∷ (b .counts .«row_quads» + n) ∷ b .counts .«core_quads» ∷ (b .counts .«row_rounds» + 1) ∷ b .counts .«passes_begun» ∷ (b .counts .quads + n) ∷ []
-      ≡ written (laidOn (reading b) li row) .counts
+  -- the counts after it
+  abbrev pub counts-after : Counts
+  counts-after = record {
+    points = b .counts .points + n;
+    quads = b .counts .quads + n;
+    fronts = b .counts .fronts;
+    «row_quads» = b .counts .«row_quads» + n;
+    «core_quads» = b .counts .«core_quads»;
+    «row_rounds» = b .counts .«row_rounds» + 1;
+    «passes_begun» = b .counts .«passes_begun»;
+    laid = b .counts .quads + n;
+  }
+
+  counts-field : counts-after ≡ written (committed (reading b) li row) .counts
   unfolding written
   counts-field = rw (points-count, quads-after, fronts-after, row-quads-after, others-after .0, others-after .1, others-after .2, laid-after)
 
-  pub laid-is : {P : List Float} {Q N C old : List ℕ}
+  pub laid-is : {P : List Float} {Q N old : List ℕ} {C : Counts}
       → P ≡ sets (b .points) (b .counts .points * 2) row
       → old ≡ getD (cut (sizesOf b) (b .frontNodes)) li []
       → Q ≡ sets (b .quads) (b .counts .quads * 4) (numbers (rowQuads old (b .counts .points) (length old)))
       → N ≡ sets (b .frontNodes) start (numbered (b .counts .points) n)
-      → C ≡ (b .counts .points + n) ∷ (b .counts .quads + n) ∷ b .counts .fronts ∷ (b .counts .«row_quads» + n) ∷ b .counts .«core_quads» ∷ (b .counts .«row_rounds» + 1) ∷ b .counts .«passes_begun» ∷ (b .counts .quads + n) ∷ []
-      → held P Q N (b .frontLengths) C ≡ written (laidOn (reading b) li row)
+      → C ≡ counts-after
+      → held P Q N (b .frontLengths) C ≡ written (committed (reading b) li row)
   unfolding after
-  laid-is {old = old} hP ho hQ hN hC = same-lent (hP ∙ points-field) (hQ ∙ quads-of-cut old ho) (hN ∙ nodes-field) lengths-field (hC ∙ counts-field)
+  laid-is {old = old} hP ho hQ hN hC = same-held (hP ∙ points-field) (hQ ∙ quads-of-cut old ho) (hN ∙ nodes-field) lengths-field (hC ∙ counts-field)

@@ -20,9 +20,6 @@ same-length-3 c = search needs
 same-length-4 : tie.Need-same-length-4
 same-length-4 c = search needs
 
-same-length-5 : tie.Need-same-length-5
-same-length-5 c = search needs
-
 returns : tie.Need-returns
 returns c = search needs
 
@@ -35,5 +32,4 @@ next-row-spec =
     same-length-2
     same-length-3
     same-length-4
-    same-length-5
     returns)

@@ -6,9 +6,9 @@ use borrow.Author.Needs.{needs}
 use lib.ListN.{length}
 use lib.Seq.{sets}
 use mathlib.Core.List.{map}
-use Rattle.sampling.specs.State.{quadNodes, joined}
-use Rattle.paving.specs.Row.{rowQuads}
-use Rattle.rows.proofs.Growing.{quads-more}
+use Rattle.state.specs.State.{quadNodes, joined}
+use Rattle.rules.specs.Checks.{rowQuads}
+use Rattle.row.proofs.Quads.{quads-more}
 use Rattle.row.proofs.commit.put_row_quads.Statement.{statement}
 use Rattle.row.proofs.commit.put_row_quads.Tie as tie
 

@@ -1,171 +1,143 @@
 -- `row::laying::lay_row` meets its contract.
-use mathlib.Core.Path.{_≡_, sym, _∙_, ap}
-use Prim.Native.Nat.{_≤_}
+use mathlib.Core.Path.{_≡_, refl, sym, _∙_, ap}
+use mathlib.Core.List.{[]}
+use Prim.Native.Nat.{_+_, _≤_}
 use native.Mathlib.Omega.{arith}
-use lib.ListN.{length, take, length-take}
+use lib.ListN.{length, getD, length-take}
 use lib.Seq.{length-take-le}
-use Rattle.geometry.specs.Domain.{sumOf}
-use Rattle.sampling.specs.State.{Held}
-use Rattle.sampling.specs.Call.{held}
-use Rattle.rows.specs.Sound.{sizesOf}
-use Rattle.candidate.proofs.Cutting.{pairs-within, part-is, cut-length}
-use Rattle.rows.proofs.Writing.{laid-is}
+use Rattle.state.specs.State.{Held, cut}
+use Rattle.state.specs.Call.{held}
+use Rattle.state.specs.Sound.{Sound, sizesOf}
+use Rattle.state.proofs.Cutting.{pairs-within, part-is, cut-length}
+use Rattle.state.proofs.Reading.{sound-counted, fits}
+use Rattle.row.specs.Room.{Room}
+use Rattle.row.proofs.Writing.{laid-is}
 use borrow.Author.Needs.{needs}
 use Rattle.row.proofs.laying.lay_row.Statement.{statement}
 use Rattle.row.proofs.laying.lay_row.Tie as tie
 
-slice-read-count : tie.Need-slice-read-count
-slice-read-count c = search needs
+-- what is held at the start
+abbrev given : tie.Start → Held
+given s = held (s .args .points .now) (s .args .quads .now) (s .args .front-nodes .now) (s .args .front-lengths .now) (s .args .counts)
 
-count-requires : tie.Need-count-requires
-count-requires c κs = search needs
+sound : (s : tie.Start) → Sound (given s)
+sound s = s .pre .0
 
-slice-read-count-2 : tie.Need-slice-read-count-2
-slice-read-count-2 c = search needs
+room : (s : tie.Start) → Room (given s) (s .args .li) (length (s .args .row .now))
+room s = s .pre .1 .1
 
-count-requires-2 : tie.Need-count-requires-2
-count-requires-2 c κs = search needs
+-- the front lies within the nodes of all
+abbrev start : tie.After-front-at → tie.Start
+start c = search
 
-slice-read-count-3 : tie.Need-slice-read-count-3
-slice-read-count-3 c = search needs
+within : (c : tie.After-front-at) → c .front-at .result .start + c .front-at .result .len ≤ length (start c .args .front-nodes .now)
+within c =
+    let s = start c in
+    let w = pairs-within (sizesOf (given s)) (s .args .li) (room s .front) in
+    let f = fits (given s) (sound-counted (given s) (sound s)) in
+    let fs = c .front-at .ensures .0 in
+    let fl = c .front-at .ensures .1 in
+    omega arith
 
-count-requires-3 : tie.Need-count-requires-3
-count-requires-3 c κs = search needs
+abbrev front-at : tie.After-nodes-of → tie.After-front-at
+front-at c = search
+
+old-is : (c : tie.After-nodes-of) → c .nodes-of .result .now ≡ getD (cut (sizesOf (given (start (front-at c)))) (start (front-at c) .args .front-nodes .now)) (start (front-at c) .args .li) []
+old-is c =
+    let f = front-at c in
+    let s = start f in
+    part-is (sizesOf (given s)) (s .args .front-nodes .now) (s .args .li) (room s .front) (fits (given s) (sound-counted (given s) (sound s))) _ _ _ (f .front-at .ensures .0) (f .front-at .ensures .1) (c .nodes-of .ensures)
 
 slice-aggregate-front-at : tie.Need-slice-aggregate-front-at
 slice-aggregate-front-at c =
     let entry : tie.Start = search in
-    let S = entry .pre .0 in let e = c .before .count3 .ensures in sym (length-take-le _ (entry .args .front-lengths .now) (omega arith))
+    let s = sound entry in sym (length-take-le _ (entry .args .front-lengths .now) (omega arith))
 
 front-at-requires : tie.Need-front-at-requires
 front-at-requires c κs =
-    let at-count2 : tie.After-count2 = search in
-    let at-count : tie.After-count = search in
     let entry : tie.Start = search in
-    let a = entry .args in let b : Held = held (a .points .now) (a .quads .now) (a .front-nodes .now) (a .front-lengths .now) (a .counts .now) in
-    let S = entry .pre .0 in let R = entry .pre .1 .1 in let e1 = at-count .count .ensures in let e2 = at-count2 .count2 .ensures in let e3 = c .before .count3 .ensures in
-    let k : length (take (c .before .count3 .result) (a .front-lengths .now)) ≤ 16 = simp length-take (omega arith) in
-    (rw e3 (R .front), k)
+    let s = sound entry in (room entry .front, simp length-take (omega arith))
 
 mul-copy-points : tie.Need-mul-copy-points
-mul-copy-points c = search needs
+mul-copy-points c =
+    let at-front-at : tie.After-front-at = search in
+    let s = sound (start at-front-at) in omega arith
 
 copy-points-requires : tie.Need-copy-points-requires
-copy-points-requires c κs = search needs
+copy-points-requires c κs =
+    let at-front-at : tie.After-front-at = search in
+    let s = sound (start at-front-at) in
+    let r = room (start at-front-at) in omega arith
 
 mul-put-row-quads : tie.Need-mul-put-row-quads
-mul-put-row-quads c = search needs
+mul-put-row-quads c =
+    let at-front-at : tie.After-front-at = search in
+    let s = sound (start at-front-at) in omega arith
 
 nodes-of-requires : tie.Need-nodes-of-requires
 nodes-of-requires c κs =
     let at-front-at : tie.After-front-at = search in
-    let at-count3 : tie.After-count3 = search in
-    let at-count2 : tie.After-count2 = search in
-    let at-count : tie.After-count = search in
-    let entry : tie.Start = search in
-    let a = entry .args in let b : Held = held (a .points .now) (a .quads .now) (a .front-nodes .now) (a .front-lengths .now) (a .counts .now) in
-    let S = entry .pre .0 in let R = entry .pre .1 .1 in let e1 = at-count .count .ensures in let e2 = at-count2 .count2 .ensures in let e3 = at-count3 .count3 .ensures in
-    let fs = rw e3 at (at-front-at .front-at .ensures .0) in let fl = rw e3 at (at-front-at .front-at .ensures .1) in
-    let w = pairs-within (sizesOf b) (a .li) (R .front) in
-    omega arith
+    within at-front-at
 
 put-row-quads-requires : tie.Need-put-row-quads-requires
 put-row-quads-requires c κs =
-    let at-front-at : tie.After-front-at = search in
-    let at-count3 : tie.After-count3 = search in
-    let at-count2 : tie.After-count2 = search in
-    let at-count : tie.After-count = search in
-    let entry : tie.Start = search in
-    let a = entry .args in let b : Held = held (a .points .now) (a .quads .now) (a .front-nodes .now) (a .front-lengths .now) (a .counts .now) in
-    let S = entry .pre .0 in let R = entry .pre .1 .1 in let e1 = at-count .count .ensures in let e2 = at-count2 .count2 .ensures in let e3 = at-count3 .count3 .ensures in
-    let fs = rw e3 at (at-front-at .front-at .ensures .0) in let fl = rw e3 at (at-front-at .front-at .ensures .1) in
-    let w = pairs-within (sizesOf b) (a .li) (R .front) in
-    let fits : sumOf (sizesOf b) ≤ length (a .front-nodes .now) = omega arith in
-    let e = part-is (sizesOf b) (a .front-nodes .now) (a .li) (R .front) fits _ _ _ fs fl (c .nodes-of .ensures) in
-    let lo : length (c .nodes-of .result .now) ≡ at-front-at .front-at .result .len = ap length e ∙ sym (cut-length (sizesOf b) (a .front-nodes .now) (a .li) (R .front) fits _ fl) in
+    let at-nodes-of : tie.After-nodes-of = search in
+    let f = front-at at-nodes-of in
+    let e = start f in
+    let s = sound e in
+    let r = room e in
+    let fl = f .front-at .ensures .1 in
+    let lo : length (at-nodes-of .nodes-of .result .now) ≡ f .front-at .result .len
+        = ap length (old-is at-nodes-of) ∙ sym (cut-length (sizesOf (given e)) (e .args .front-nodes .now) (e .args .li) (r .front) (fits (given e) (sound-counted (given e) s)) _ fl) in
     omega arith
 
 put-numbers-requires : tie.Need-put-numbers-requires
 put-numbers-requires c κs =
     let at-front-at : tie.After-front-at = search in
-    let at-count3 : tie.After-count3 = search in
-    let at-count2 : tie.After-count2 = search in
-    let at-count : tie.After-count = search in
-    let entry : tie.Start = search in
-    let a = entry .args in let b : Held = held (a .points .now) (a .quads .now) (a .front-nodes .now) (a .front-lengths .now) (a .counts .now) in
-    let S = entry .pre .0 in let R = entry .pre .1 .1 in let e1 = at-count .count .ensures in let e2 = at-count2 .count2 .ensures in let e3 = at-count3 .count3 .ensures in
-    let fs = rw e3 at (at-front-at .front-at .ensures .0) in let fl = rw e3 at (at-front-at .front-at .ensures .1) in
-    let w = pairs-within (sizesOf b) (a .li) (R .front) in
+    let w = within at-front-at in
+    let r = room (start at-front-at) in
+    let fl = at-front-at .front-at .ensures .1 in
     omega arith
 
-slice-read-row-quads : tie.Need-slice-read-row-quads
-slice-read-row-quads c =
-    let entry : tie.Start = search in
-    let S = entry .pre .0 in omega arith
-
-add-row-quads : tie.Need-add-row-quads
-add-row-quads c =
+add-t19 : tie.Need-add-t19
+add-t19 c =
     let at-front-at : tie.After-front-at = search in
-    let at-count3 : tie.After-count3 = search in
-    let at-count2 : tie.After-count2 = search in
-    let at-count : tie.After-count = search in
-    let entry : tie.Start = search in
-    let a = entry .args in let b : Held = held (a .points .now) (a .quads .now) (a .front-nodes .now) (a .front-lengths .now) (a .counts .now) in
-    let S = entry .pre .0 in let R = entry .pre .1 .1 in let e1 = at-count .count .ensures in let e2 = at-count2 .count2 .ensures in let e3 = at-count3 .count3 .ensures in
-    let fs = rw e3 at (at-front-at .front-at .ensures .0) in let fl = rw e3 at (at-front-at .front-at .ensures .1) in
-    let w = pairs-within (sizesOf b) (a .li) (R .front) in
+    let s = sound (start at-front-at) in
+    let r = room (start at-front-at) in
+    let fl = at-front-at .front-at .ensures .1 in
     omega arith
 
-slice-read-core-quads : tie.Need-slice-read-core-quads
-slice-read-core-quads c =
-    let entry : tie.Start = search in
-    let S = entry .pre .0 in omega arith
-
-slice-read-row-rounds : tie.Need-slice-read-row-rounds
-slice-read-row-rounds c =
-    let entry : tie.Start = search in
-    let S = entry .pre .0 in omega arith
-
-add-row-rounds : tie.Need-add-row-rounds
-add-row-rounds c =
-    let entry : tie.Start = search in
-    let S = entry .pre .0 in omega arith
-
-slice-read-passes : tie.Need-slice-read-passes
-slice-read-passes c =
-    let entry : tie.Start = search in
-    let S = entry .pre .0 in omega arith
-
-add-all : tie.Need-add-all
-add-all c =
+add-t27 : tie.Need-add-t27
+add-t27 c =
     let at-front-at : tie.After-front-at = search in
-    let at-count3 : tie.After-count3 = search in
-    let at-count2 : tie.After-count2 = search in
-    let at-count : tie.After-count = search in
-    let entry : tie.Start = search in
-    let a = entry .args in let b : Held = held (a .points .now) (a .quads .now) (a .front-nodes .now) (a .front-lengths .now) (a .counts .now) in
-    let S = entry .pre .0 in let R = entry .pre .1 .1 in let e1 = at-count .count .ensures in let e2 = at-count2 .count2 .ensures in let e3 = at-count3 .count3 .ensures in
-    let fs = rw e3 at (at-front-at .front-at .ensures .0) in let fl = rw e3 at (at-front-at .front-at .ensures .1) in
-    let w = pairs-within (sizesOf b) (a .li) (R .front) in
+    let s = sound (start at-front-at) in
+    let r = room (start at-front-at) in
+    let fl = at-front-at .front-at .ensures .1 in
     omega arith
 
-add-put-counts : tie.Need-add-put-counts
-add-put-counts c =
+add-t28 : tie.Need-add-t28
+add-t28 c =
     let at-front-at : tie.After-front-at = search in
-    let at-count3 : tie.After-count3 = search in
-    let at-count2 : tie.After-count2 = search in
-    let at-count : tie.After-count = search in
-    let entry : tie.Start = search in
-    let a = entry .args in let b : Held = held (a .points .now) (a .quads .now) (a .front-nodes .now) (a .front-lengths .now) (a .counts .now) in
-    let S = entry .pre .0 in let R = entry .pre .1 .1 in let e1 = at-count .count .ensures in let e2 = at-count2 .count2 .ensures in let e3 = at-count3 .count3 .ensures in
-    let fs = rw e3 at (at-front-at .front-at .ensures .0) in let fl = rw e3 at (at-front-at .front-at .ensures .1) in
-    let w = pairs-within (sizesOf b) (a .li) (R .front) in
+    let s = sound (start at-front-at) in
+    let r = room (start at-front-at) in
+    let fl = at-front-at .front-at .ensures .1 in
     omega arith
 
-put-counts-requires : tie.Need-put-counts-requires
-put-counts-requires c κs =
-    let entry : tie.Start = search in
-    entry .pre .0 .countsLong
+add-t29 : tie.Need-add-t29
+add-t29 c =
+    let at-front-at : tie.After-front-at = search in
+    let s = sound (start at-front-at) in
+    let r = room (start at-front-at) in
+    let fl = at-front-at .front-at .ensures .1 in
+    omega arith
+
+add-t30 : tie.Need-add-t30
+add-t30 c =
+    let at-front-at : tie.After-front-at = search in
+    let s = sound (start at-front-at) in
+    let r = room (start at-front-at) in
+    let fl = at-front-at .front-at .ensures .1 in
+    omega arith
 
 same-length : tie.Need-same-length
 same-length c = search needs
@@ -176,39 +148,20 @@ same-length-2 c = search needs
 same-length-3 : tie.Need-same-length-3
 same-length-3 c = search needs
 
-same-length-4 : tie.Need-same-length-4
-same-length-4 c = search needs
-
 returns : tie.Need-returns
 returns c =
     let at-put-numbers : tie.After-put-numbers = search in
     let at-put-row-quads : tie.After-put-row-quads = search in
     let at-nodes-of : tie.After-nodes-of = search in
+    let f = front-at at-nodes-of in
     let at-copy-points : tie.After-copy-points = search in
-    let at-front-at : tie.After-front-at = search in
-    let at-count3 : tie.After-count3 = search in
-    let at-count2 : tie.After-count2 = search in
-    let at-count : tie.After-count = search in
-    let entry = at-count .before .before .before .before .before .before .before .before in
-    let a = entry .args in let b : Held = held (a .points .now) (a .quads .now) (a .front-nodes .now) (a .front-lengths .now) (a .counts .now) in
-    let S = entry .pre .0 in let R = entry .pre .1 .1 in let e1 = at-count .count .ensures in let e2 = at-count2 .count2 .ensures in let e3 = at-count3 .count3 .ensures in
-    let fs = rw e3 at (at-front-at .front-at .ensures .0) in let fl = rw e3 at (at-front-at .front-at .ensures .1) in
-    let w = pairs-within (sizesOf b) (a .li) (R .front) in
-    let fits : sumOf (sizesOf b) ≤ length (a .front-nodes .now) = omega arith in
-    let e = part-is (sizesOf b) (a .front-nodes .now) (a .li) (R .front) fits _ _ _ fs fl (at-nodes-of .nodes-of .ensures) in
-    laid-is b S (entry .pre .1 .0) (a .li) _ (a .row .now) R fl (rw e1 at (at-copy-points .copy-points .ensures)) e (rw (e1, e2) at (at-put-row-quads .put-row-quads .ensures)) (rw (fs, e1) at (at-put-numbers .put-numbers .ensures))
-    (rw (← e1, ← e2, ← e3) (c .before .before .put-counts .ensures))
+    let s = start f in
+    laid-is (given s) (sound s) (s .pre .1 .0) (s .args .li) (f .front-at .result .len) (s .args .row .now) (room s) (f .front-at .ensures .1) (at-copy-points .copy-points .ensures) (old-is at-nodes-of) (at-put-row-quads .put-row-quads .ensures) (rw (f .front-at .ensures .0) at (at-put-numbers .put-numbers .ensures)) refl
 
 pub lay-row-spec : {M : Type 1} → statement M
 lay-row-spec =
     tie.close
     (tie.spec
-    slice-read-count
-    count-requires
-    slice-read-count-2
-    count-requires-2
-    slice-read-count-3
-    count-requires-3
     slice-aggregate-front-at
     front-at-requires
     mul-copy-points
@@ -217,17 +170,12 @@ lay-row-spec =
     nodes-of-requires
     put-row-quads-requires
     put-numbers-requires
-    slice-read-row-quads
-    add-row-quads
-    slice-read-core-quads
-    slice-read-row-rounds
-    add-row-rounds
-    slice-read-passes
-    add-all
-    add-put-counts
-    put-counts-requires
+    add-t19
+    add-t27
+    add-t28
+    add-t29
+    add-t30
     same-length
     same-length-2
     same-length-3
-    same-length-4
     returns)

@@ -3,20 +3,26 @@ use Prim.Native.Nat.{_<_}
 use native.Mathlib.Omega.{arith}
 use lib.ListN.{length}
 use lib.Seq.{getD-take}
-use Rattle.sampling.specs.State.{Held}
-use Rattle.sampling.specs.Call.{held}
-use Rattle.rows.specs.Sound.{sizesOf}
-use Rattle.candidate.proofs.Cutting.{pairs-within}
-use Rattle.rows.proofs.Reading.{sizes-long, sound-counted}
+use Rattle.state.specs.State.{Held}
+use Rattle.state.specs.Call.{held}
+use Rattle.state.specs.Sound.{Sound, sizesOf}
+use Rattle.state.proofs.Cutting.{pairs-within}
+use Rattle.state.proofs.Reading.{sizes-long, sound-counted}
 use borrow.Author.Needs.{needs}
 use Rattle.row.proofs.step.row_on.Statement.{statement}
 use Rattle.row.proofs.step.row_on.Tie as tie
+
+-- what is held at the start
+abbrev given : tie.Start → Held
+given s = held (s .args .points .now) (s .args .quads .now) (s .args .front-nodes .now) (s .args .front-lengths .now) (s .args .counts)
 
 mul-if1 : tie.Need-mul-if1
 mul-if1 c = search needs
 
 slice-read-if1 : tie.Need-slice-read-if1
-slice-read-if1 c = search needs
+slice-read-if1 c =
+    let entry : tie.Start = search in
+    let s : Sound (given entry) = entry .pre .0 in omega arith
 
 slice-aggregate-row-in : tie.Need-slice-aggregate-row-in
 slice-aggregate-row-in c = search needs
@@ -38,9 +44,6 @@ same-length-3 c = search needs
 same-length-4 : tie.Need-same-length-4
 same-length-4 c = search needs
 
-same-length-5 : tie.Need-same-length-5
-same-length-5 c = search needs
-
 returns : tie.Need-returns
 returns c = search needs
 
@@ -50,12 +53,15 @@ slice-aggregate-row-in-2 c = search needs
 row-in-requires-2 : tie.Need-row-in-requires-2
 row-in-requires-2 c κs =
     let entry : tie.Start = search in
-    let a = entry .args in let b : Held = held (a .points .now) (a .quads .now) (a .front-nodes .now) (a .front-lengths .now) (a .counts .now) in
-    let p = entry .pre in let S = p .0 in
-    let hl : a .li < length (sizesOf b) = rw (sizes-long b (sound-counted b S)) (p .1 .1 .0) in
-    let w = pairs-within (sizesOf b) (a .li) hl in
-    let n = getD-take (b .counts .fronts) (a .front-lengths .now) (a .li) 0 (p .1 .1 .0) in
-    (S, (p .1 .0, (p .1 .1, omega arith)))
+    let p = entry .pre in
+    let s : Sound (given entry) = p .0 in
+    let hl : entry .args .li < length (sizesOf (given entry)) = rw (sizes-long (given entry) (sound-counted (given entry) s)) (p .1 .1 .0) in
+    let w = pairs-within (sizesOf (given entry)) (entry .args .li) hl in
+    let n = getD-take (entry .args .counts .fronts) (entry .args .front-lengths .now) (entry .args .li) 0 (p .1 .1 .0) in
+    (s, (p .1 .0, (p .1 .1, omega arith)))
+
+same-length-5 : tie.Need-same-length-5
+same-length-5 c = search needs
 
 same-length-6 : tie.Need-same-length-6
 same-length-6 c = search needs
@@ -65,12 +71,6 @@ same-length-7 c = search needs
 
 same-length-8 : tie.Need-same-length-8
 same-length-8 c = search needs
-
-same-length-9 : tie.Need-same-length-9
-same-length-9 c = search needs
-
-same-length-10 : tie.Need-same-length-10
-same-length-10 c = search needs
 
 returns-2 : tie.Need-returns-2
 returns-2 c = search needs
@@ -87,13 +87,11 @@ row-on-spec =
     same-length-2
     same-length-3
     same-length-4
-    same-length-5
     returns
     slice-aggregate-row-in-2
     row-in-requires-2
+    same-length-5
     same-length-6
     same-length-7
     same-length-8
-    same-length-9
-    same-length-10
     returns-2)
