@@ -98,11 +98,6 @@ occurs-le a (xs ∷ xss) (suc i) = let e = occurs-le a xss i in omega arith
 
 -- ---- numbered nodes
 
-pub numbered-length : (first n : ℕ) → length (numbered first n) ≡ n
-unfolding numbered
-numbered-length first zero = refl
-numbered-length first (suc n) = ap suc (numbered-length (suc first) n)
-
 pub numbered-at : (first n i : ℕ) → i < n → getD (numbered first n) i 0 ≡ first + i
 unfolding numbered
 numbered-at first zero i l = absurd (omega arith)
@@ -110,10 +105,10 @@ numbered-at first (suc n) zero l = omega arith
 numbered-at first (suc n) (suc i) l = numbered-at (suc first) n i (omega arith) ∙ omega arith
 
 -- which numbers occur: those from `first` on, n of them, once each
-pub numbered-below : (a first n : ℕ) → a < first → occurs a (numbered first n) ≡ 0
+pub numbered-before : (a first n : ℕ) → a < first → occurs a (numbered first n) ≡ 0
 unfolding numbered occurs
-numbered-below a first zero l = refl
-numbered-below a first (suc n) l = omega (arith, is-other a first (λ e. omega arith), numbered-below a (suc first) n (omega arith))
+numbered-before a first zero l = refl
+numbered-before a first (suc n) l = omega (arith, is-other a first (λ e. omega arith), numbered-before a (suc first) n (omega arith))
 
 pub numbered-beyond : (a first n : ℕ) → first + n ≤ a → occurs a (numbered first n) ≡ 0
 unfolding numbered occurs
@@ -126,5 +121,5 @@ numbered-once a first zero = omega arith
 numbered-once a first (suc n) = go (is-cases a first) (numbered-once a (suc first) n)
   where
     go : ((a ≡ first) × (is a first ≡ 1)) ⊎ ((a ≡ first → ⊥) × (is a first ≡ 0)) → occurs a (numbered (suc first) n) ≤ 1 → is a first + occurs a (numbered (suc first) n) ≤ 1
-    go (inl e) ih = omega (arith, e .0, e .1, numbered-below a (suc first) n (omega (arith, e .0)))
+    go (inl e) ih = omega (arith, e .0, e .1, numbered-before a (suc first) n (omega (arith, e .0)))
     go (inr e) ih = omega (arith, e .1)

@@ -1,6 +1,6 @@
 -- Laws on counting a pair of nodes over the sides of rings. Stated over lists of nodes in general.
 use mathlib.Core.Path.{_≡_, refl, ap, ap₂, sym, _∙_}
-use mathlib.Core.Bool.{Bool, true, false, cond, _&&_, _||_}
+use mathlib.Core.Bool.{Bool, true, false, cond, _&&_, _||_, and-comm, or-comm}
 use mathlib.Core.List.{List, [], _∷_, _++_, map}
 use mathlib.Core.Logic.{_⊎_, inl, inr}
 use Prim.Native.Nat.{ℕ, zero, suc, _+_, _*_, _≤_, _<_}
@@ -37,28 +37,16 @@ pair-le a b u v = elim (pair-cases a b u v) [ inl h ↦ omega (arith, h .2) | in
 pub pair-not-left : (a b u v : ℕ) → (a ≡ u → ⊥) → (a ≡ v → ⊥) → isPair a b u v ≡ 0
 pair-not-left a b u v p q = elim (pair-cases a b u v) [ inl h ↦ absurd (p (h .0)) | inr (inl h) ↦ absurd (q (h .0)) | inr (inr h) ↦ h ]
 
-or-swap : (p q : Bool) → (p || q) ≡ (q || p)
-or-swap true true = refl
-or-swap true false = refl
-or-swap false true = refl
-or-swap false false = refl
-
 -- the side the other way round, and the pair the other way round
 pub pair-swap : (a b u v : ℕ) → isPair a b u v ≡ isPair a b v u
 unfolding isPair
-pair-swap a b u v = ap (λ t. cond t 1 0) (or-swap (eqb a u && eqb b v) (eqb a v && eqb b u))
-
-and-swap : (p q : Bool) → (p && q) ≡ (q && p)
-and-swap true true = refl
-and-swap true false = refl
-and-swap false true = refl
-and-swap false false = refl
+pair-swap a b u v = ap (λ t. cond t 1 0) (or-comm (eqb a u && eqb b v) (eqb a v && eqb b u))
 
 pub pair-flip : (a b u v : ℕ) → isPair a b u v ≡ isPair b a u v
 unfolding isPair
 pair-flip a b u v =
     ap (λ t. cond t 1 0)
-    (ap₂ (λ x y. x || y) (and-swap (eqb a u) (eqb b v)) (and-swap (eqb a v) (eqb b u)) ∙ or-swap (eqb b v && eqb a u) (eqb b u && eqb a v))
+    (ap₂ (λ x y. x || y) (and-comm (eqb a u) (eqb b v)) (and-comm (eqb a v) (eqb b u)) ∙ or-comm (eqb b v && eqb a u) (eqb b u && eqb a v))
 
 -- ---- the next place in a ring
 

@@ -13,10 +13,10 @@ use Rattle.float.specs.Helpers.{decimal, isFinite}
 use Rattle.geometry.specs.Rings.{nodeRing}
 use Rattle.geometry.specs.Domain.{rings}
 use Rattle.state.specs.State.{State, Held, Lengths, Quad, quad, nodes, joined, written, reading}
-use Rattle.sampling.specs.State.{Answer}
 use Rattle.input.specs.Job.{Job, inputNumber}
 use Rattle.state.specs.Outcome.{Outcome, refused, gives, firstOf, test}
-use Rattle.sampling.specs.Sample.{sampled, answered, jobAnswer}
+use Rattle.sampling.specs.Sample.{sampled, onJob}
+use Rattle.state.specs.Call.{numberOf, jobLeft}
 use Rattle.rules.specs.Row.{every, quadPasses}
 use Rattle.state.specs.Given.{member}
 use Rattle.rules.specs.Passes.{somePasses}
@@ -24,9 +24,9 @@ use Rattle.rules.specs.Closing.{closure, keptFronts, closed, closings}
 use Rattle.rules.specs.Fan.{centre, fanQuads, fanned, fan}
 use Rattle.rules.specs.Calls.{andThen, paved, jobCall}
 use Rattle.pairs.specs.Pairs.{sidesOfAll, pairCount}
-use Rattle.state.specs.Sound.{Sound}
-use Rattle.rules.specs.Demands.{sampledLoops}
+use Rattle.rules.specs.Demands.{sampledLoops, Tiled}
 use Rattle.rules.proofs.Lists.{every-at}
+use Rattle.state.proofs.Basics.{or-false}
 use Rattle.state.proofs.Outcomes.{gives-same, not-both, first-none, numbered-gives}
 use Rattle.rules.proofs.Numbers.{RefusedIn}
 use Rattle.rules.proofs.Refusals.{jobRefusals, jobOutcome, job-in}
@@ -77,19 +77,19 @@ no-zero e = let z : _≡_ {A = ℕ} 0 1 = ap (λ t. cond t 1 0) e in omega arith
 pub record Accepted (j : Job) (l : Lengths) : Type 0 where
   pub state : State
   pub made : Made j state
-  pub lentIs : jobCall j l .held ≡ written state
+  pub heldIs : jobCall j l .held ≡ written state
 
-pub job-accepted : (j : Job) (l : Lengths) → jobCall j l .number ≡ 0 → Accepted j l
-unfolding jobCall jobAnswer answered RefusedIn
+pub job-accepted : (j : Job) (l : Lengths) → numberOf (jobCall j l) ≡ 0 → Accepted j l
+unfolding jobCall onJob jobLeft RefusedIn
 job-accepted j l e = go (jobOutcome j l) refl e
   where
     made-of : (t : State) → (b : Bool) → cond b (paved j) (refused (inputNumber j l)) ≡ gives t → Made j t
     made-of t true d = paved-made j t d
     made-of t false d = absurd (not-both d)
 
-    go : (x : Outcome State) → jobOutcome j l ≡ x → answered l x .number ≡ 0 → Accepted j l
+    go : (x : Outcome State) → jobOutcome j l ≡ x → numberOf (jobLeft l x) ≡ 0 → Accepted j l
     go (refused n) d f = absurd (no-zero (subst (λ k. member k jobRefusals ≡ true) f (job-in j l n d)))
-    go (gives t) d f = record { state = t; made = made-of t (eqb (inputNumber j l) 0) d; lentIs = ap (λ x. answered l x .held) d }
+    go (gives t) d f = record { state = t; made = made-of t (eqb (inputNumber j l) 0) d; heldIs = ap (λ x. jobLeft l x .held) d }
 
 -- the invariant of an accepted job
 pub made-good : (j : Job) (t : State) → Made j t → GoodState (sampledLoops (sampled j)) t
@@ -102,18 +102,11 @@ made-good j t m =
     let laid = passes-advance j (j .options .«max_row_rounds») s u (m .passesAre) .keeps (s .fronts) begin in
     rw (loops, m .closedIs) (closing-good (s .fronts) (u .points) (u .quads) [] (u .fronts) laid)
 
-pub good-sound : (loops : List (List ℕ)) (s : State) → GoodState loops s → Sound loops s
+pub good-tiled : (loops : List (List ℕ)) (s : State) → GoodState loops s → Tiled loops s
 unfolding pairCount
-good-sound loops s g = record { corners = g .corners; pairs = g .count }
+good-tiled loops s g = record { corners = g .corners; pairs = g .count }
 
 -- ---- a fan
-
-or-false : (a b : Bool) → (a || b) ≡ false → b ≡ false
-or-false true b e = absurd (clash e)
-  where
-    clash : true ≡ false → ⊥
-    clash d = let z : _≡_ {A = ℕ} 1 0 = ap (λ t. cond t 1 0) d in omega arith
-or-false false b e = e
 
 -- with no front left the pairs are those of loops and quads
 no-fronts : (loops : List (List ℕ)) (u : State) → u .fronts ≡ [] → ((a b : ℕ) → (laidCount loops (u .quads) a b ≡ 0) ⊎ (laidCount loops (u .quads) a b ≡ 2))
@@ -123,14 +116,14 @@ no-fronts loops u none h a b =
     let e : laidCount loops (u .quads) a b + sidesOfAll a b (u .fronts) ≡ laidCount loops (u .quads) a b = rw none (omega arith) in
     elim (h a b) [ inl x ↦ inl (e ∙ x) | inr x ↦ inr (e ∙ x) ]
 
--- what a fan leaves: whole points, and a sound state
+-- what a fan leaves: whole points, and a tiled state
 pub record Fanned (loops : List (List ℕ)) (u : State) : Type 0 where
   pub even : length (u .points) % 2 ≡ 0
-  pub sound : Sound loops u
+  pub tiled : Tiled loops u
 
-fanned-sound : (loops : List (List ℕ)) (j : Job) (s : State) (f : List ℕ) (u : State) → GoodState loops s → s .fronts ≡ f ∷ [] → fanned j s f ≡ gives u → Fanned loops u
+fanned-tiled : (loops : List (List ℕ)) (j : Job) (s : State) (f : List ℕ) (u : State) → GoodState loops s → s .fronts ≡ f ∷ [] → fanned j s f ≡ gives u → Fanned loops u
 unfolding fanned
-fanned-sound loops j s f u good only e =
+fanned-tiled loops j s f u good only e =
     let n = length f in
     let c = centre (rings (j .coords) (j .loops)) (nodeRing (s .points) f) in
     let more = c .point .x ∷ c .point .y ∷ [] in
@@ -147,25 +140,25 @@ fanned-sound loops j s f u good only e =
     let t26 = first-none 25 (not (isFinite (c .clearance)) || le (c .clearance) (decimal 0 0)) _ (t24 .1) in
     let t21 = first-none 20 (ltb 4096 (nodes s + 1) || ltb 4096 (length (s .quads) + n / 2)) _ (t26 .1) in
     let t27 = first-none 26 (not (every (λ i. quadPasses pts (getD added i noQuad)) (n / 2))) _ (t21 .1) in
-    let twos : n ≡ 2 * (n / 2) = omega (arith, eqb-false (n % 2) 1 (or-false (ltb n 4) (eqb (n % 2) 1) (t24 .0))) in
+    let twos : n ≡ 2 * (n / 2) = omega (arith, eqb-false (n % 2) 1 (or-false (ltb n 4) (eqb (n % 2) 1) (t24 .0) .1)) in
     let here : Good loops (s .points) (s .quads) (f ∷ []) = subst (λ x. Good loops (s .points) (s .quads) x) only good in
     subst (λ x. Fanned loops x) (all .1)
     (record {
       even = omega (arith, length-append (s .points) more, good .even);
-      sound = record {
+      tiled = record {
         corners = fan-corners loops (s .points) (s .quads) f here more (n / 2) twos (λ i l. every-at (λ i. quadPasses pts (getD added i noQuad)) (n / 2) i (not-false _ (t27 .0)) l);
         pairs = no-fronts loops _ refl (fan-count loops (s .points) (s .quads) f here more (n / 2) twos);
       };
     })
 
-pub fan-sound : (loops : List (List ℕ)) (j : Job) (s u : State) → GoodState loops s → fan j s ≡ gives u → Fanned loops u
+pub fan-tiled : (loops : List (List ℕ)) (j : Job) (s u : State) → GoodState loops s → fan j s ≡ gives u → Fanned loops u
 unfolding fan
-fan-sound loops j s u good e = go (s .fronts) refl e
+fan-tiled loops j s u good e = go (s .fronts) refl e
   where
     after : List (List ℕ) → Outcome State
     after x = elim x [ [] ↦ gives s | f ∷ fs ↦ cond (eqb (length fs) 0) (fanned j s f) (refused 23) ]
 
     go : (x : List (List ℕ)) → s .fronts ≡ x → after x ≡ gives u → Fanned loops u
-    go [] d h = subst (λ t. Fanned loops t) (gives-same h) (record { even = good .even; sound = good-sound loops s good })
-    go (f ∷ []) d h = fanned-sound loops j s f u good d h
+    go [] d h = subst (λ t. Fanned loops t) (gives-same h) (record { even = good .even; tiled = good-tiled loops s good })
+    go (f ∷ []) d h = fanned-tiled loops j s f u good d h
     go (f ∷ (g ∷ fs)) d h = absurd (not-both (rw (ne-eqb (suc (length fs)) 0 (λ x. omega arith)) at h))

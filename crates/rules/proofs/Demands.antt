@@ -10,40 +10,37 @@ use lib.Seq.{take-at}
 use lib.Ieee.{Float}
 use Rattle.float.specs.Helpers.{decimal}
 use Rattle.state.specs.State.{State, Held, Lengths, Quad, quadNodes, nodes, joined, padded, written, reading}
-use Rattle.sampling.specs.State.{Answer}
 use Rattle.input.specs.Job.{Job}
 use Rattle.state.specs.Outcome.{Outcome, refused, gives}
 use Rattle.sampling.specs.Sample.{sampled}
-use Rattle.planning.specs.Ring.{kept}
-use Rattle.paving.specs.RowCall.{stateAnswer}
+use Rattle.state.specs.Call.{numberOf, stateLeft, onState}
 use Rattle.rules.specs.Passes.{somePasses}
 use Rattle.rules.specs.Closing.{closure, keptFronts, closed}
 use Rattle.rules.specs.Fan.{fan}
 use Rattle.rules.specs.Calls.{jobCall, fanCall}
-use Rattle.state.specs.Sound.{Sound}
-use Rattle.rules.specs.Demands.{sampledLoops, underLimit, Begins, Demand1, Demand3}
-use Rattle.rules.proofs.Lists.{map-append}
+use Rattle.rules.specs.Demands.{sampledLoops, Tiled, underLimit, Begins, Demand1, Demand3}
 use Rattle.state.proofs.Outcomes.{gives-same, not-both}
+use Rattle.state.proofs.Growing.{numbers, numbers-append, length-numbers}
 use Rattle.state.proofs.Written.{reading-written}
 use Rattle.rules.proofs.SampleGood.{Fresh, sampled-fresh, fresh-good}
 use Rattle.rules.proofs.PassGood.{GoodState, Advances, passes-prefix, passes-advance}
 use Rattle.rules.proofs.Limits.{sampled-same, passes-same}
 use Rattle.rules.proofs.Refusals.{demand-1, stateNumber}
-use Rattle.rules.proofs.Answers.{Made, Accepted, job-accepted, made-good, good-sound, Fanned, fan-sound}
+use Rattle.rules.proofs.Answers.{Made, Accepted, job-accepted, made-good, good-tiled, Fanned, fan-tiled}
 
 -- ---- each answer
 
-answer-sound : (j : Job) (l : Lengths) → jobCall j l .number ≡ 0 → Sound (sampledLoops (sampled j)) (reading (jobCall j l .held))
-answer-sound j l e =
+answer-tiled : (j : Job) (l : Lengths) → numberOf (jobCall j l) ≡ 0 → Tiled (sampledLoops (sampled j)) (reading (jobCall j l .held))
+answer-tiled j l e =
     let a = job-accepted j l e in
     let g = made-good j (a .state) (a .made) in
-    subst (λ b. Sound (sampledLoops (sampled j)) (reading b)) (sym (a .lentIs))
-    (subst (λ s. Sound (sampledLoops (sampled j)) s) (sym (reading-written (a .state) (g .even))) (good-sound (sampledLoops (sampled j)) (a .state) g))
+    subst (λ b. Tiled (sampledLoops (sampled j)) (reading b)) (sym (a .heldIs))
+    (subst (λ s. Tiled (sampledLoops (sampled j)) s) (sym (reading-written (a .state) (g .even))) (good-tiled (sampledLoops (sampled j)) (a .state) g))
 
 -- ---- after any fan
 
-after-fan : (j k : Job) (l : Lengths) → jobCall j l .number ≡ 0 → Sound (sampledLoops (sampled j)) (reading (fanCall k (jobCall j l .held) .held))
-unfolding fanCall stateAnswer kept
+after-fan : (j k : Job) (l : Lengths) → numberOf (jobCall j l) ≡ 0 → Tiled (sampledLoops (sampled j)) (reading (fanCall k (jobCall j l .held) .held))
+unfolding fanCall onState stateLeft
 after-fan j k l e = go (stepped (eqb (stateNumber k b) 0)) refl
   where
     b : Held
@@ -59,35 +56,25 @@ after-fan j k l e = go (stepped (eqb (stateNumber k b) 0)) refl
     good =
         let a = job-accepted j l e in
         let g = made-good j (a .state) (a .made) in
-        subst (λ x. GoodState loops (reading x)) (sym (a .lentIs)) (subst (λ s. GoodState loops s) (sym (reading-written (a .state) (g .even))) g)
+        subst (λ x. GoodState loops (reading x)) (sym (a .heldIs)) (subst (λ s. GoodState loops s) (sym (reading-written (a .state) (g .even))) g)
 
     granted : (u : State) (t : Bool) → stepped t ≡ gives u → Fanned loops u
-    granted u true d = fan-sound loops k (reading b) u good d
+    granted u true d = fan-tiled loops k (reading b) u good d
     granted u false d = absurd (not-both d)
 
-    go : (x : Outcome State) → stepped (eqb (stateNumber k b) 0) ≡ x → Sound loops (reading (kept b x .held))
-    go (refused n) d = answer-sound j l e
+    go : (x : Outcome State) → stepped (eqb (stateNumber k b) 0) ≡ x → Tiled loops (reading (stateLeft b x .held))
+    go (refused n) d = answer-tiled j l e
     go (gives u) d =
         let f = granted u (eqb (stateNumber k b) 0) d in
-        subst (λ s. Sound loops s) (sym (reading-written u (f .even))) (f .sound)
+        subst (λ s. Tiled loops s) (sym (reading-written u (f .even))) (f .tiled)
 
 -- ---- two pass limits
 
 -- the first quads of a list, written
-quads-length : (qs : List Quad) → length (joined (map quadNodes qs)) ≡ length qs * 4
-unfolding joined
-quads-length [] = refl
-quads-length (q ∷ qs) = let e = quads-length qs in omega arith
-
-joined-append : {A : Type 0} (xs ys : List (List A)) → joined (xs ++ ys) ≡ joined xs ++ joined ys
-unfolding joined
-joined-append [] ys = refl
-joined-append (x ∷ xs) ys = ap (λ t. x ++ t) (joined-append xs ys) ∙ sym (append-assoc x (joined xs) (joined ys))
-
-first-quads : (qs more : List Quad) (rest : List ℕ) → take (length qs * 4) (joined (map quadNodes (qs ++ more)) ++ rest) ≡ joined (map quadNodes qs)
+first-quads : (qs more : List Quad) (rest : List ℕ) → take (length qs * 4) (numbers (qs ++ more) ++ rest) ≡ numbers qs
 first-quads qs more rest =
-    rw (map-append quadNodes qs more, joined-append (map quadNodes qs) (map quadNodes more), append-assoc (joined (map quadNodes qs)) (joined (map quadNodes more)) rest)
-    (take-at (joined (map quadNodes qs)) _ (length qs * 4) (quads-length qs))
+    rw (numbers-append qs more, append-assoc (numbers qs) (numbers more) rest)
+    (take-at (numbers qs) _ (length qs * 4) (length-numbers qs))
 
 -- the first of a list, with more behind it
 first-of : {A : Type 0} (xs more rest : List A) (n : ℕ) → length xs ≡ n → take n ((xs ++ more) ++ rest) ≡ xs
@@ -99,7 +86,7 @@ module _ (s t : State) (adv : Advances s t) (all : s .laid ≡ length (s .quads)
   points-first : take (nodes s * 2) (padded 8192 (decimal 0 0) (t .points)) ≡ s .points
   points-first = rw (adv .pointsAre) (first-of (s .points) (adv .morePoints) _ (nodes s * 2) (omega arith))
 
-  quads-first : (added : List Quad) → take (s .laid * 4) (padded 16384 0 (joined (map quadNodes (t .quads ++ added)))) ≡ joined (map quadNodes (s .quads))
+  quads-first : (added : List Quad) → take (s .laid * 4) (padded 16384 0 (numbers (t .quads ++ added))) ≡ numbers (s .quads)
   quads-first added = rw (all, adv .quadsAre, append-assoc (s .quads) (adv .moreQuads) added) (first-quads (s .quads) (adv .moreQuads ++ added) _)
 
   closed-begins : Begins (written (closed s)) (written (closed t))
@@ -108,12 +95,12 @@ module _ (s t : State) (adv : Advances s t) (all : s .laid ≡ length (s .quads)
     fewerPoints = rw (adv .pointsAre) (omega (arith, length-append (s .points) (adv .morePoints)));
     fewerLaid = rw (all, adv .laidAll all, adv .quadsAre) (omega (arith, length-append (s .quads) (adv .moreQuads)));
     samePoints = take-at (s .points) _ (nodes s * 2) (omega arith) ∙ sym points-first;
-    sameQuads = ap (λ n. take (n * 4) (padded 16384 0 (joined (map quadNodes (s .quads ++ joined (map (closure (s .points)) (s .fronts))))))) all
+    sameQuads = ap (λ n. take (n * 4) (padded 16384 0 (numbers (s .quads ++ joined (map (closure (s .points)) (s .fronts)))))) all
         ∙ first-quads (s .quads) (joined (map (closure (s .points)) (s .fronts))) _
         ∙ sym (quads-first (joined (map (closure (t .points)) (t .fronts))));
   }
 
-begins : (j : Job) (l : Lengths) (p q : ℕ) → p ≤ q → jobCall (underLimit j p) l .number ≡ 0 → jobCall (underLimit j q) l .number ≡ 0
+begins : (j : Job) (l : Lengths) (p q : ℕ) → p ≤ q → numberOf (jobCall (underLimit j p) l) ≡ 0 → numberOf (jobCall (underLimit j q) l) ≡ 0
     → Begins (jobCall (underLimit j p) l .held) (jobCall (underLimit j q) l .held)
 begins j l p q le e f =
     let a = job-accepted (underLimit j p) l e in
@@ -129,7 +116,7 @@ begins j l p q le e f =
     let up = passes-advance (underLimit j p) p s u (a .made .passesAre) in
     let all : u .laid ≡ length (u .quads) = up .laidAll (fresh .noneLaid ∙ sym (ap length (fresh .none))) in
     let good = up .keeps (s .fronts) (fresh-good s fresh) in
-    subst₂ Begins (sym (a .lentIs ∙ ap written (a .made .closedIs))) (sym (b .lentIs ∙ ap written (b .made .closedIs))) (closed-begins u v adv all (good .even))
+    subst₂ Begins (sym (a .heldIs ∙ ap written (a .made .closedIs))) (sym (b .heldIs ∙ ap written (b .made .closedIs))) (closed-begins u v adv all (good .even))
 
 pub demand-3 : Demand3
-demand-3 = record { prefix = begins; answer = answer-sound; fan = after-fan }
+demand-3 = record { prefix = begins; answer = answer-tiled; fan = after-fan }

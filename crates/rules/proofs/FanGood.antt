@@ -1,7 +1,7 @@
 -- A fan of the one front that is left: pairs are still counted never or twice, and every quad passes.
 use mathlib.Core.Path.{_≡_, refl, ap, ap₂, sym, _∙_}
 use mathlib.Core.Bool.{true}
-use mathlib.Core.List.{List, [], _∷_, _++_, map}
+use mathlib.Core.List.{List, [], _∷_, _++_, map, map-append}
 use mathlib.Core.Logic.{_⊎_, inl, inr}
 use Prim.Native.Nat.{ℕ, zero, suc, _+_, _*_, _/_, _%_, _≤_, _<_}
 use native.Mathlib.Omega.{arith}
@@ -14,7 +14,7 @@ use Rattle.rules.specs.Row.{quadPasses}
 use Rattle.pairs.specs.Pairs.{isPair, sum, sides, sidesOfAll}
 use Rattle.rules.specs.Closing.{turnedQuad}
 use Rattle.rules.specs.Fan.{fanQuads}
-use Rattle.rules.proofs.Lists.{map-append, all-append, below-or-from, twice}
+use Rattle.rules.proofs.Lists.{all-append, below-or-from, twice}
 use Rattle.pairs.proofs.Sums.{sum-cong, sum-add, sum-none, sum-once, sum-next, sum-pairs}
 use Rattle.pairs.proofs.Occurs.{occurs, occursInAll, occurs-none, occurs-once}
 use Rattle.pairs.proofs.Sides.{pair-cases, pair-le, pair-swap, next-cases, quad-sides, sides-append-all, sides-none-left, sides-none-right}

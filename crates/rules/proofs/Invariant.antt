@@ -1,7 +1,7 @@
 -- What holds of points, quads and fronts through sampling, passes and closings, whatever was laid: demand 3 is a part of it.
 use mathlib.Core.Path.{_≡_, refl, ap, sym, _∙_, ap₂}
 use mathlib.Core.Bool.{true}
-use mathlib.Core.List.{List, [], _∷_, _++_, map}
+use mathlib.Core.List.{List, [], _∷_, _++_, map, map-append}
 use mathlib.Core.Logic.{_⊎_, inl, inr}
 use Prim.Native.Nat.{ℕ, zero, suc, _+_, _*_, _/_, _%_, _≤_, _<_}
 use native.Mathlib.Omega.{arith}
@@ -10,7 +10,7 @@ use lib.Ieee.{Float}
 use Rattle.state.specs.State.{Quad, quad, quadNodes}
 use Rattle.rules.specs.Row.{quadPasses}
 use Rattle.pairs.specs.Pairs.{sidesOfAll}
-use Rattle.rules.proofs.Lists.{map-append, point-append}
+use Rattle.rules.proofs.Lists.{point-append}
 use Rattle.pairs.proofs.Occurs.{occursInAll}
 use Rattle.pairs.proofs.Sides.{sides-append-all}
 

@@ -13,10 +13,6 @@ use lib.Ieee.{Float, nan}
 use Rattle.geometry.specs.Rings.{pointAt}
 use Rattle.rules.specs.Row.{every}
 
-pub map-append : {A B : Type 0} (f : A → B) (xs ys : List A) → map f (xs ++ ys) ≡ map f xs ++ map f ys
-map-append f [] ys = refl
-map-append f (x ∷ xs) ys = ap (λ t. f x ∷ t) (map-append f xs ys)
-
 -- what holds at each place of two lists holds at each place of both together
 pub all-append : {A : Type 0} (P : A → Type 0) (d : A) (xs ys : List A) → ((i : ℕ) → i < length xs → P (getD xs i d)) → ((i : ℕ) → i < length ys → P (getD ys i d))
     → (i : ℕ) → i < length (xs ++ ys) → P (getD (xs ++ ys) i d)

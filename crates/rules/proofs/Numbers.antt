@@ -10,7 +10,6 @@ use lib.Ieee.{Float}
 use borrow.Author.Tests.{eqb-true, eqb-false, ne-eqb}
 use Rattle.geometry.specs.Rings.{Ring}
 use Rattle.geometry.specs.Domain.{rings, domainArea}
-use Rattle.input.specs.declared.Options.{Options}
 use Rattle.state.specs.State.{State, Lengths, nodes}
 use Rattle.input.specs.Job.{Job, inputNumber}
 use Rattle.state.specs.Outcome.{Outcome, refused, gives, Test, test, firstOf}
@@ -120,28 +119,28 @@ pub input-listed : (j : Job) (l : Lengths) → member (inputNumber j l) (0 ∷ i
 unfolding inputNumber
 input-listed j l = first-in _ inputNumbers own-input
 
-loop-in : (h : Float) (o : Options) (before : ℕ) (ccw : Bool) (r : Ring) → RefusedIn loopNumbers (sampleLoop h o before ccw r)
+loop-in : (h margin : Float) (before : ℕ) (ccw : Bool) (r : Ring) → RefusedIn loopNumbers (sampleLoop h margin before ccw r)
 unfolding sampleLoop
-loop-in h o before ccw r = chosen-in _ _ loopNumbers (first-in _ loopNumbers own-loop) (gives-in loopNumbers _)
+loop-in h margin before ccw r = chosen-in _ _ loopNumbers (first-in _ loopNumbers own-loop) (gives-in loopNumbers _)
 
-from-in : (h : Float) (o : Options) (before : ℕ) (ccw : Bool) (s : State) (rs : List Ring) → RefusedIn loopNumbers (sampleFrom h o before ccw s rs)
+from-in : (h margin : Float) (before : ℕ) (ccw : Bool) (s : State) (rs : List Ring) → RefusedIn loopNumbers (sampleFrom h margin before ccw s rs)
 unfolding sampleFrom
-from-in h o before ccw s [] = gives-in loopNumbers s
-from-in h o before ccw s (r ∷ rs) = go (sampleLoop h o before ccw r) (loop-in h o before ccw r) (λ out. from-in h o (before + planned h o (loopRing ccw r)) false (withLoop s out) rs)
+from-in h margin before ccw s [] = gives-in loopNumbers s
+from-in h margin before ccw s (r ∷ rs) = go (sampleLoop h margin before ccw r) (loop-in h margin before ccw r) (λ out. from-in h margin (before + planned h margin (loopRing ccw r)) false (withLoop s out) rs)
   where
     after : Outcome (List Float) → Outcome State
     after (refused n) = refused n
-    after (gives out) = sampleFrom h o (before + planned h o (loopRing ccw r)) false (withLoop s out) rs
+    after (gives out) = sampleFrom h margin (before + planned h margin (loopRing ccw r)) false (withLoop s out) rs
 
     go : (x : Outcome (List Float)) → RefusedIn loopNumbers x
-        → ((out : List Float) → RefusedIn loopNumbers (sampleFrom h o (before + planned h o (loopRing ccw r)) false (withLoop s out) rs))
+        → ((out : List Float) → RefusedIn loopNumbers (sampleFrom h margin (before + planned h margin (loopRing ccw r)) false (withLoop s out) rs))
         → RefusedIn loopNumbers (after x)
     go (refused n) p rest = refused-in State loopNumbers n (unfold RefusedIn in p n refl)
     go (gives out) p rest = rest out
 
 pub sampled-in : (j : Job) → RefusedIn loopNumbers (sampled j)
 unfolding sampled
-sampled-in j = from-in (j .h) (j .options) 0 true empty (rings (j .coords) (j .loops))
+sampled-in j = from-in (j .h) (j .options .«corner_margin») 0 true empty (rings (j .coords) (j .loops))
 
 pub row-in : (j : Job) (s : State) (li : ℕ) → RefusedIn rowRefusals (nextRow j s li)
 unfolding nextRow

@@ -12,8 +12,8 @@ use Rattle.geometry.specs.Rings.{Ring}
 use Rattle.state.specs.State.{State, Quad, nodes}
 use Rattle.input.specs.Job.{Job}
 use Rattle.state.specs.Outcome.{Outcome, refused, gives, firstOf, test}
-use Rattle.paving.specs.declared.Projection.{Projection}
-use Rattle.paving.specs.declared.Projection.the-variants.{At, Nothing}
+use Rattle.rules.specs.declared.Projection.{Projection}
+use Rattle.rules.specs.declared.Projection.the-variants.{At, Nothing}
 use Rattle.rules.specs.Projecting.{projectionNumber, projectionValues}
 use Rattle.rules.specs.Simple.{isSimple}
 use Rattle.rules.specs.Row.{every, projection, newPoints, old, new, newRing, newQuads, projects, inside, offBoundary, longEnough, clearOfFront, cornersPassAt, rowStands, committed, nextRow}

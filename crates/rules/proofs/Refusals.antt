@@ -6,14 +6,12 @@ use Prim.Native.Nat.{ℕ, zero, suc}
 use lib.Dec.{eqb, leb}
 use lib.ListN.{length}
 use Rattle.state.specs.State.{State, Held, Lengths, lengths, zeros, written, reading}
-use Rattle.sampling.specs.State.{Answer}
 use Rattle.input.specs.Job.{Job, inputNumber}
 use Rattle.state.specs.Outcome.{Outcome, refused, gives, firstOf, test}
-use Rattle.sampling.specs.Sample.{sampled, answered, jobAnswer}
+use Rattle.sampling.specs.Sample.{sampled, onJob}
 use Rattle.rules.specs.Row.{nextRow}
 use Rattle.state.specs.Given.{member, wrongState}
-use Rattle.planning.specs.Ring.{kept}
-use Rattle.paving.specs.RowCall.{stateAnswer}
+use Rattle.state.specs.Call.{jobLeft, stateLeft, onState}
 use Rattle.rules.specs.RowCall.{rowAt, rowCall}
 use Rattle.rules.specs.Passes.{somePasses}
 use Rattle.rules.specs.Closing.{closings}
@@ -34,15 +32,15 @@ then-in ns (gives s) step p q = q s
 
 -- ---- what a refusal leaves
 
-answered-listed : (l : Lengths) (ns : List ℕ) (x : Outcome State) → RefusedIn ns x → Listed (0 ∷ ns) (zeros l) (answered l x)
-unfolding answered member RefusedIn
-answered-listed l ns (refused n) p = record { listed = or-true-right (eqb n 0) (member n ns) (p n refl); refusal = λ f. refl }
-answered-listed l ns (gives s) p = record { listed = refl; refusal = λ f. absurd (f refl) }
+job-left-listed : (l : Lengths) (ns : List ℕ) (x : Outcome State) → RefusedIn ns x → Listed (0 ∷ ns) (zeros l) (jobLeft l x)
+unfolding jobLeft member RefusedIn
+job-left-listed l ns (refused n) p = record { listed = or-true-right (eqb n 0) (member n ns) (p n refl); refusal = λ f. refl }
+job-left-listed l ns (gives s) p = record { listed = refl; refusal = λ f. absurd (f refl) }
 
-kept-listed : (b : Held) (ns : List ℕ) (x : Outcome State) → RefusedIn ns x → Listed (0 ∷ ns) b (kept b x)
-unfolding kept member RefusedIn
-kept-listed b ns (refused n) p = record { listed = or-true-right (eqb n 0) (member n ns) (p n refl); refusal = λ f. refl }
-kept-listed b ns (gives s) p = record { listed = refl; refusal = λ f. absurd (f refl) }
+state-left-listed : (b : Held) (ns : List ℕ) (x : Outcome State) → RefusedIn ns x → Listed (0 ∷ ns) b (stateLeft b x)
+unfolding stateLeft member RefusedIn
+state-left-listed b ns (refused n) p = record { listed = or-true-right (eqb n 0) (member n ns) (p n refl); refusal = λ f. refl }
+state-left-listed b ns (gives s) p = record { listed = refl; refusal = λ f. absurd (f refl) }
 
 -- ---- the job
 
@@ -77,8 +75,8 @@ pub job-in : (j : Job) (l : Lengths) → RefusedIn jobRefusals (jobOutcome j l)
 job-in j l = chosen-in (inputNumber j l) (paved j) jobRefusals (member-widen (inputNumber j l) (0 ∷ inputNumbers) (0 ∷ jobRefusals) input-job (input-listed j l)) (paved-in j)
 
 job-listed : (j : Job) (l : Lengths) → Listed jobNumbers (zeros l) (jobCall j l)
-unfolding jobCall jobAnswer
-job-listed j l = answered-listed l jobRefusals (jobOutcome j l) (job-in j l)
+unfolding jobCall onJob
+job-listed j l = job-left-listed l jobRefusals (jobOutcome j l) (job-in j l)
 
 -- ---- the calls on a given state
 
@@ -98,9 +96,9 @@ state-in j b ns h k = go (eqb (inputNumber j (lengths b)) 0)
     go false = member-widen _ (0 ∷ inputNumbers) (0 ∷ ns) h (input-listed j (lengths b))
 
 state-listed : (j : Job) (b : Held) (ns : List ℕ) (step : State → Outcome State) → allMembers (0 ∷ inputNumbers) (0 ∷ ns) ≡ true → allMembers (0 ∷ 25 ∷ []) (0 ∷ ns) ≡ true
-    → ((s : State) → RefusedIn ns (step s)) → Listed (0 ∷ ns) b (stateAnswer j b step)
-unfolding stateAnswer
-state-listed j b ns step h k p = kept-listed b ns _ (chosen-in (stateNumber j b) (step (reading b)) ns (state-in j b ns h k) (p (reading b)))
+    → ((s : State) → RefusedIn ns (step s)) → Listed (0 ∷ ns) b (onState (inputNumber j (lengths b)) b step)
+unfolding onState
+state-listed j b ns step h k p = state-left-listed b ns _ (chosen-in (stateNumber j b) (step (reading b)) ns (state-in j b ns h k) (p (reading b)))
 
 abbrev rowOnly : List ℕ
 rowOnly = 1 ∷ 2 ∷ 3 ∷ 4 ∷ 5 ∷ 6 ∷ 25 ∷ 20 ∷ 22 ∷ 21 ∷ []

@@ -12,7 +12,8 @@ use Rattle.state.specs.State.{Quad, quad, quadNodes, numbered}
 use Rattle.rules.specs.Row.{quadPasses, rowQuads}
 use Rattle.pairs.specs.Pairs.{sides, sidesOfAll}
 use Rattle.rules.proofs.Lists.{all-append, below-or-from, twice}
-use Rattle.pairs.proofs.Occurs.{occurs, occursInAll, occurs-none, occurs-set, occurs-le, numbered-length, numbered-below, numbered-beyond, numbered-once}
+use Rattle.pairs.proofs.Occurs.{occurs, occursInAll, occurs-none, occurs-set, occurs-le, numbered-before, numbered-beyond, numbered-once}
+use Rattle.state.proofs.Growing.{length-numbered}
 use Rattle.pairs.proofs.Sides.{next-below, sides-none-left, sides-none-right, sides-once, sides-set, sides-none-left-all, sides-none-right-all}
 use Rattle.rules.proofs.RowSides.{row-length, row-sides, rungs, rungs-old, rungs-new, rungs-none-left, rungs-none-right, rungs-once}
 use Rattle.rules.proofs.Invariant.{Good, Below, noQuad, laidCount, laid-append, passes-append}
@@ -81,7 +82,7 @@ module _ (loops : List (List ℕ)) (points : List Float) (quads : List Quad) (fr
   laid-after a b = laid-append loops quads (rowQuads old p n) a b ∙ ap (λ t. laidCount loops quads a b + t) (row-sides a b old p)
 
   new-once : (a b : ℕ) → sides a b new ≤ 1
-  new-once a b = sides-once a b new (λ c. numbered-once c p n) (omega (arith, numbered-length p n))
+  new-once a b = sides-once a b new (λ c. numbered-once c p n) (omega (arith, length-numbered p n))
 
   count : (a b : ℕ) → (laidCount loops (quads ++ rowQuads old p n) a b + sidesOfAll a b after ≡ 0) ⊎ (laidCount loops (quads ++ rowQuads old p n) a b + sidesOfAll a b after ≡ 2)
   count a b = go (below-or-from a p) (below-or-from b p)
@@ -89,14 +90,14 @@ module _ (loops : List (List ℕ)) (points : List Float) (quads : List Quad) (fr
       go : (a < p) ⊎ (p ≤ a) → (b < p) ⊎ (p ≤ b) → (laidCount loops (quads ++ rowQuads old p n) a b + sidesOfAll a b after ≡ 0) ⊎ (laidCount loops (quads ++ rowQuads old p n) a b + sidesOfAll a b after ≡ 2)
       go (inl x) (inl y) =
           let e : laidCount loops (quads ++ rowQuads old p n) a b + sidesOfAll a b after ≡ laidCount loops quads a b + sidesOfAll a b fronts =
-          omega (arith, laid-after a b, sides-after a b, sides-none-left a b new (numbered-below a p n x), rungs-old a b old p old-low x y) in
+          omega (arith, laid-after a b, sides-after a b, sides-none-left a b new (numbered-before a p n x), rungs-old a b old p old-low x y) in
           rw e (good .count a b)
       go (inl x) (inr y) =
           twice _ (rungs a b old p) (rungs-once a b old p old-low)
-          (omega (arith, laid-after a b, sides-after a b, good .freshRight a b y, sides-none-right-all a b fronts (good .low b y), sides-none-left a b new (numbered-below a p n x), sides-none-right a b old (old-low b y)))
+          (omega (arith, laid-after a b, sides-after a b, good .freshRight a b y, sides-none-right-all a b fronts (good .low b y), sides-none-left a b new (numbered-before a p n x), sides-none-right a b old (old-low b y)))
       go (inr x) (inl y) =
           twice _ (rungs a b old p) (rungs-once a b old p old-low)
-          (omega (arith, laid-after a b, sides-after a b, good .freshLeft a b x, sides-none-left-all a b fronts (good .low a x), sides-none-right a b new (numbered-below b p n y), sides-none-left a b old (old-low a x)))
+          (omega (arith, laid-after a b, sides-after a b, good .freshLeft a b x, sides-none-left-all a b fronts (good .low a x), sides-none-right a b new (numbered-before b p n y), sides-none-left a b old (old-low a x)))
       go (inr x) (inr y) =
           twice _ (sides a b new) (new-once a b)
           (omega (arith, laid-after a b, sides-after a b, good .freshLeft a b x, sides-none-left-all a b fronts (good .low a x), rungs-new a b old p old-low x y, sides-none-left a b old (old-low a x)))
@@ -106,21 +107,21 @@ module _ (loops : List (List ℕ)) (points : List Float) (quads : List Quad) (fr
     where
       -- an old node that is still in a front is in another one
       gone : (c : ℕ) → 0 < occursInAll c after → c < p → occurs c old ≡ 0
-      gone c s x = omega (arith, occurs-after c, good .once c, numbered-below c p n x)
+      gone c s x = omega (arith, occurs-after c, good .once c, numbered-before c p n x)
 
       still : (c : ℕ) → 0 < occursInAll c after → c < p → 0 < occursInAll c fronts
-      still c s x = omega (arith, occurs-after c, numbered-below c p n x)
+      still c s x = omega (arith, occurs-after c, numbered-before c p n x)
 
       go : (a < p) ⊎ (p ≤ a) → (b < p) ⊎ (p ≤ b) → laidCount loops (quads ++ rowQuads old p n) a b ≡ sidesOfAll a b after
       go (inl x) (inl y) =
           omega
-          (arith, laid-after a b, sides-after a b, good .own a b (still a s x) (still b t y), sides-none-left a b old (gone a s x), sides-none-left a b new (numbered-below a p n x), rungs-old a b old p old-low x y)
+          (arith, laid-after a b, sides-after a b, good .own a b (still a s x) (still b t y), sides-none-left a b old (gone a s x), sides-none-left a b new (numbered-before a p n x), rungs-old a b old p old-low x y)
       go (inl x) (inr y) =
           omega
-          (arith, laid-after a b, sides-after a b, good .freshRight a b y, sides-none-right-all a b fronts (good .low b y), sides-none-left a b old (gone a s x), sides-none-left a b new (numbered-below a p n x), rungs-none-left a b old p old-low (gone a s x) (λ i l e. omega arith))
+          (arith, laid-after a b, sides-after a b, good .freshRight a b y, sides-none-right-all a b fronts (good .low b y), sides-none-left a b old (gone a s x), sides-none-left a b new (numbered-before a p n x), rungs-none-left a b old p old-low (gone a s x) (λ i l e. omega arith))
       go (inr x) (inl y) =
           omega
-          (arith, laid-after a b, sides-after a b, good .freshLeft a b x, sides-none-left-all a b fronts (good .low a x), sides-none-right a b old (gone b t y), sides-none-right a b new (numbered-below b p n y), rungs-none-right a b old p old-low (gone b t y) (λ i l e. omega arith))
+          (arith, laid-after a b, sides-after a b, good .freshLeft a b x, sides-none-left-all a b fronts (good .low a x), sides-none-right a b old (gone b t y), sides-none-right a b new (numbered-before b p n y), rungs-none-right a b old p old-low (gone b t y) (λ i l e. omega arith))
       go (inr x) (inr y) =
           omega
           (arith, laid-after a b, sides-after a b, good .freshLeft a b x, sides-none-left-all a b fronts (good .low a x), sides-none-left a b old (old-low a x), rungs-new a b old p old-low x y)
@@ -129,7 +130,7 @@ module _ (loops : List (List ℕ)) (points : List Float) (quads : List Quad) (fr
   row-good = record {
     even = omega (arith, length-append points more, even);
     once = λ a. elim (below-or-from a p) [
-      | inl x ↦ omega (arith, occurs-after a, good .once a, numbered-below a p n x)
+      | inl x ↦ omega (arith, occurs-after a, good .once a, numbered-before a p n x)
       | inr x ↦ omega (arith, occurs-after a, good .low a x, numbered-once a p n)
     ];
     low = λ a h. omega (arith, occurs-after a, nodes-after, good .low a (omega (arith, nodes-after)), numbered-beyond a p n (omega (arith, nodes-after)));

@@ -1,6 +1,6 @@
 -- The sides of a row's quads: those of the old front, those of the new one, and twice the rungs between them.
 use mathlib.Core.Path.{_≡_, refl, ap, sym, _∙_}
-use mathlib.Core.List.{List, [], _∷_, _++_, map}
+use mathlib.Core.List.{List, [], _∷_, _++_, map, map-append}
 use mathlib.Core.Logic.{_⊎_, inl, inr}
 use Prim.Native.Nat.{ℕ, zero, suc, _+_, _*_, _≤_, _<_}
 use native.Mathlib.Omega.{arith}
@@ -9,9 +9,10 @@ use Rattle.geometry.specs.Rings.{next}
 use Rattle.state.specs.State.{Quad, quad, quadNodes, numbered}
 use Rattle.rules.specs.Row.{rowQuads}
 use Rattle.pairs.specs.Pairs.{isPair, sum, sides, sidesOfAll}
-use Rattle.rules.proofs.Lists.{map-append, below-or-from}
+use Rattle.rules.proofs.Lists.{below-or-from}
 use Rattle.pairs.proofs.Sums.{sum-cong, sum-add, sum-none, sum-once, sum-next}
-use Rattle.pairs.proofs.Occurs.{occurs, occurs-none, occurs-once, numbered-length, numbered-at}
+use Rattle.pairs.proofs.Occurs.{occurs, occurs-none, occurs-once, numbered-at}
+use Rattle.state.proofs.Growing.{length-numbered}
 use Rattle.pairs.proofs.Sides.{pair-cases, pair-le, pair-not-left, pair-flip, pair-swap, next-below, quad-sides, sides-append-all}
 
 pub row-length : (old : List ℕ) (first k : ℕ) → length (rowQuads old first k) ≡ k
@@ -48,7 +49,7 @@ module _ (a b : ℕ) (old : List ℕ) (first : ℕ) where
   new-sides : sides a b (numbered first n) ≡ sum (λ i. isPair a b (first + next n i) (first + i)) n
   unfolding sides
   new-sides =
-      rw (numbered-length first n)
+      rw (length-numbered first n)
       (sum-cong _ _ n
       (λ i l. ap (λ u. isPair a b u (getD (numbered first n) (next n i) 0)) (numbered-at first n i l) ∙ ap (λ v. isPair a b (first + i) v) (numbered-at first n (next n i) (next-below n i l)) ∙ pair-swap a b (first + i) (first + next n i)))
 

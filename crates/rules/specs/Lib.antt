@@ -6,5 +6,4 @@ pub mod Passes
 pub mod Closing
 pub mod Fan
 pub mod Calls
-pub mod Plates
 pub mod Demands
