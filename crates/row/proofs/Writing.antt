@@ -20,7 +20,7 @@ use Rattle.state.proofs.Reading.{Counted, sound-counted, fits, points-long, nod
 use Rattle.state.proofs.Zeros.{same-held, points-held, quads-held, nodes-held, lengths-held}
 use Rattle.rules.specs.Checks.{rowQuads}
 use Rattle.rules.specs.Row.{front, committed}
-use Rattle.row_checks.proofs.Agreeing.{length-quads}
+use Rattle.rules.proofs.RowSides.{row-length}
 use Rattle.row.specs.Room.{Room}
 
 -- ---- a front replaced where it stands
@@ -71,7 +71,7 @@ module _ (b : Held) (sound : Sound b) (clean : Clean b) (li n : ℕ) (row : List
       extended (decimal 0 0) (b .points) (take (b .counts .points * 2) (b .points)) pointsLength (b .counts .points * 2) (ap (λ (l : Held). l .points) clean ∙ points-held b sound) (points-long b counted) row (omega arith)
 
   quads-long : (old : List ℕ) → length old ≡ n → length (numbers (rowQuads old (b .counts .points) (length old))) ≡ n * 4
-  quads-long old e = length-numbers (rowQuads old (b .counts .points) (length old)) ∙ rw (length-quads old (b .counts .points) (length old), e)
+  quads-long old e = length-numbers (rowQuads old (b .counts .points) (length old)) ∙ rw (row-length old (b .counts .points) (length old), e)
 
   quads-field : (old : List ℕ) → old ≡ front (reading b) li → sets (b .quads) (b .counts .quads * 4) (numbers (rowQuads old (b .counts .points) (length old))) ≡ written (committed (reading b) li row) .quads
   unfolding written committed
@@ -104,7 +104,7 @@ module _ (b : Held) (sound : Sound b) (clean : Clean b) (li n : ℕ) (row : List
 
   quads-after : length (committed (reading b) li row .quads) ≡ b .counts .quads + n
   unfolding committed
-  quads-after = rw (length-append (reading b .quads) _, quads-read b counted, length-quads, ← old-length)
+  quads-after = rw (length-append (reading b .quads) _, quads-read b counted, row-length, ← old-length)
 
   fronts-after : length (committed (reading b) li row .fronts) ≡ b .counts .fronts
   unfolding committed

@@ -7,12 +7,13 @@ use Prim.Native.Nat.{ℕ, zero, suc, _+_, _*_, _/_, _%_, _<_}
 use native.Mathlib.Nat.{not-suc-le-zero, le-of-suc-le-suc, eq-or-lt-of-le}
 use native.Mathlib.Omega.{arith}
 use lib.Ieee.{Float, nan}
-use lib.ListN.{length, getD, length-append, List·getD-append}
+use lib.ListN.{length, getD, List·getD-append}
 use lib.Seq.{getD-append-add, getD-at}
 use Rattle.geometry.specs.Rings.{pointAt, next}
 use Rattle.geometry.specs.Measures.{cornersPass}
 use Rattle.state.specs.State.{Quad, quad}
 use Rattle.pairs.proofs.Sides.{next-below}
+use Rattle.rules.proofs.RowSides.{row-length}
 use Rattle.rules.specs.Checks.{every, quadPasses, rowQuads, newQuads, allCornersPass}
 use Rattle.row_checks.specs.Candidate.{cornersBetween}
 
@@ -23,19 +24,14 @@ every-same p q (suc n) f = ap₂ _&&_ (every-same p q n (λ i l. f i (omega arit
 
 -- ---- the row's quads by their places
 
-pub length-quads : (old : List ℕ) (first k : ℕ) → length (rowQuads old first k) ≡ k
-unfolding rowQuads
-length-quads old first zero = refl
-length-quads old first (suc k) = length-append (rowQuads old first k) _ ∙ let e = length-quads old first k in omega arith
-
 quad-at : (old : List ℕ) (first n i : ℕ) (d : Quad) → i < n
     → getD (rowQuads old first n) i d ≡ quad (getD old i 0) (getD old (next (length old) i) 0) (first + next (length old) i) (first + i)
 unfolding rowQuads
 quad-at old first zero i d l = absurd (not-suc-le-zero l)
 quad-at old first (suc n) i d l =
     ⊎-elim
-    (λ e. rw e (getD-at (rowQuads old first n) _ [] d n (length-quads old first n)))
-    (λ g. List·getD-append (rowQuads old first n) _ d i (rw (length-quads old first n) g) ∙ quad-at old first n i d g)
+    (λ e. rw e (getD-at (rowQuads old first n) _ [] d n (row-length old first n)))
+    (λ g. List·getD-append (rowQuads old first n) _ d i (rw (row-length old first n) g) ∙ quad-at old first n i d g)
     (eq-or-lt-of-le (le-of-suc-le-suc l))
 
 -- ---- points of the old list and of the new one

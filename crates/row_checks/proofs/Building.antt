@@ -1,6 +1,6 @@
 -- The new points, one projection a turn.
 use mathlib.Core.Path.{_≡_, refl, sym, _∙_, ap}
-use mathlib.Core.Bool.{Bool, true, false, _&&_, true≢false}
+use mathlib.Core.Bool.{Bool, true, false}
 use mathlib.Core.List.{List, [], _∷_, _++_}
 use Prim.Native.Nat.{ℕ, zero, suc, _+_, _-_, _*_, _≤_, _<_}
 use native.Mathlib.Numerals.{add-one}
@@ -64,21 +64,3 @@ module _ (r : Ring) (h : Float) where
   pub none-yet : newPoints r h 0 ≡ []
   unfolding newPoints
   none-yet = refl
-
-module _ (r : Ring) (h : Float) where
-  -- where every node projects there is a point for each
-  pub new-length : (k : ℕ) → every (projects r h) k ≡ true → length (newPoints r h k) ≡ k * 2
-  unfolding every newPoints
-  new-length zero e = refl
-  new-length (suc k) e = length-append (newPoints r h k) (projectionValues (projection r h k)) ∙ two (new-length k) (and-both (every (projects r h) k) (projects r h k) e)
-    where
-      values : (p : Projection) → eqb (projectionNumber p) 0 ≡ true → length (projectionValues p) ≡ 2
-      values (At x y) g = refl
-      values Nothing g = absurd (true≢false (sym g))
-
-      and-both : (a b : Bool) → (a && b) ≡ true → (a ≡ true) × (b ≡ true)
-      and-both true b g = (refl, g)
-      and-both false b g = absurd (true≢false (sym g))
-
-      two : (every (projects r h) k ≡ true → length (newPoints r h k) ≡ k * 2) → (every (projects r h) k ≡ true) × (projects r h k ≡ true) → length (newPoints r h k) + length (projectionValues (projection r h k)) ≡ suc k * 2
-      two ih g = let a = ih (g .0) in let b = values (projection r h k) (g .1) in omega arith

@@ -17,7 +17,7 @@ use Rattle.input.specs.Job.{Job, inputNumber}
 use Rattle.state.specs.Outcome.{Outcome, refused, gives, firstOf, test}
 use Rattle.sampling.specs.Sample.{sampled, onJob}
 use Rattle.state.specs.Call.{numberOf, jobLeft}
-use Rattle.rules.specs.Row.{every, quadPasses}
+use Rattle.rules.specs.Checks.{every, quadPasses}
 use Rattle.state.specs.Given.{member}
 use Rattle.rules.specs.Passes.{somePasses}
 use Rattle.rules.specs.Closing.{closure, keptFronts, closed, closings}

@@ -12,7 +12,7 @@ use Rattle.float.specs.Helpers.{decimal, lesser}
 use borrow.Author.Tests.{eqb-true, eqb-false, ne-eqb}
 use Rattle.geometry.specs.Rings.{next}
 use Rattle.state.specs.State.{Quad, quad, quadNodes, joined}
-use Rattle.rules.specs.Row.{quadPasses}
+use Rattle.rules.specs.Checks.{quadPasses}
 use Rattle.pairs.specs.Pairs.{isPair, sum, sides, sidesOfAll}
 use Rattle.rules.specs.Closing.{areaOf, turnedQuad, leastOf, closeFour, sixth, firstHalf, secondHalf, bestSplit, closure, keptFronts}
 use Rattle.rules.proofs.Lists.{and-left, and-right}

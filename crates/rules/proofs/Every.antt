@@ -7,7 +7,7 @@ use native.Mathlib.Numerals.{add-one}
 use native.Mathlib.Omega.{arith}
 use lib.Ieee.{Float, lt}
 use Rattle.state.proofs.Basics.{and-false}
-use Rattle.rules.specs.Row.{every}
+use Rattle.rules.specs.Checks.{every}
 
 module _ (p : ℕ → Bool) where
   pub every-none : every p 0 ≡ true

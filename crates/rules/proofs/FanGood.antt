@@ -10,7 +10,7 @@ use lib.ListN.{length, getD, length-append}
 use lib.Ieee.{Float}
 use Rattle.geometry.specs.Rings.{next}
 use Rattle.state.specs.State.{Quad, quad, quadNodes}
-use Rattle.rules.specs.Row.{quadPasses}
+use Rattle.rules.specs.Checks.{quadPasses}
 use Rattle.pairs.specs.Pairs.{isPair, sum, sides, sidesOfAll}
 use Rattle.rules.specs.Closing.{turnedQuad}
 use Rattle.rules.specs.Fan.{fanQuads}

@@ -8,7 +8,7 @@ use native.Mathlib.Omega.{arith}
 use lib.ListN.{length, getD}
 use lib.Ieee.{Float}
 use Rattle.state.specs.State.{Quad, quad, quadNodes}
-use Rattle.rules.specs.Row.{quadPasses}
+use Rattle.rules.specs.Checks.{quadPasses}
 use Rattle.pairs.specs.Pairs.{sidesOfAll}
 use Rattle.rules.proofs.Lists.{point-append}
 use Rattle.pairs.proofs.Occurs.{occursInAll}

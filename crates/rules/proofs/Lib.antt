@@ -7,6 +7,7 @@ pub mod Closes
 pub mod ClosingGood
 pub mod FanGood
 pub mod SampleGood
+pub mod Stands
 pub mod PassGood
 pub mod Numbers
 pub mod Limits

@@ -8,7 +8,7 @@ use Rattle.state.specs.State.{State}
 use Rattle.state.specs.Outcome.{Outcome, refused, gives}
 use Rattle.input.specs.Job.{Job}
 use Rattle.sampling.specs.Sample.{sampled}
-use Rattle.rules.specs.Row.{rowStands, committed, nextRow}
+use Rattle.rules.specs.Row.{restStands, rowStands, rowNumber, nextRow}
 use Rattle.rules.specs.Passes.{passOrder, begun, rowsInOrder, onePass, somePasses}
 use Rattle.rules.specs.Demands.{underLimit}
 
@@ -17,7 +17,7 @@ unfolding sampled
 sampled-same j p q = refl
 
 pub row-same : (j : Job) (p q : ℕ) (s : State) (li : ℕ) → nextRow (underLimit j p) s li ≡ nextRow (underLimit j q) s li
-unfolding nextRow rowStands committed
+unfolding nextRow rowNumber rowStands restStands
 row-same j p q s li = refl
 
 rows-same : (j : Job) (p q : ℕ) (order : List ℕ) (s : State) → rowsInOrder (underLimit j p) order s ≡ rowsInOrder (underLimit j q) order s

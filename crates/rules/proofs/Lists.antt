@@ -11,7 +11,7 @@ use borrow.Author.Tests.{ltb-true, ltb-false}
 use lib.ListN.{length, getD, length-append, List·getD-append}
 use lib.Ieee.{Float, nan}
 use Rattle.geometry.specs.Rings.{pointAt}
-use Rattle.rules.specs.Row.{every}
+use Rattle.rules.specs.Checks.{every}
 
 -- what holds at each place of two lists holds at each place of both together
 pub all-append : {A : Type 0} (P : A → Type 0) (d : A) (xs ys : List A) → ((i : ℕ) → i < length xs → P (getD xs i d)) → ((i : ℕ) → i < length ys → P (getD ys i d))

@@ -18,7 +18,7 @@ use Rattle.planning.specs.Plan.{planned}
 use Rattle.placing.specs.Placed.{placed}
 use Rattle.placing.specs.Loop.{sampleLoop}
 use Rattle.sampling.specs.Sample.{empty, withLoop, sampleFrom, sampled}
-use Rattle.rules.specs.Row.{nextRow}
+use Rattle.rules.specs.Row.{rowNumber, nextRow}
 use Rattle.state.specs.Given.{member}
 use Rattle.rules.specs.Passes.{passOrder, begun, rowsInOrder, onePass, somePasses}
 use Rattle.rules.specs.Closing.{closed, closings}
@@ -143,7 +143,7 @@ unfolding sampled
 sampled-in j = from-in (j .h) (j .options .«corner_margin») 0 true empty (rings (j .coords) (j .loops))
 
 pub row-in : (j : Job) (s : State) (li : ℕ) → RefusedIn rowRefusals (nextRow j s li)
-unfolding nextRow
+unfolding nextRow rowNumber
 row-in j s li = chosen-in _ _ rowRefusals (first-in _ rowRefusals own-row) (gives-in rowRefusals _)
 
 rows-in : (j : Job) (order : List ℕ) (s : State) → RefusedIn (21 ∷ []) (rowsInOrder j order s)

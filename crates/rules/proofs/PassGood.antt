@@ -1,27 +1,22 @@
 -- Rows, passes and several passes: the invariant is kept, and points and quads are only added. A run of few passes is the first part of a run of more.
 use mathlib.Core.Path.{_≡_, refl, ap, sym, _∙_, subst}
-use mathlib.Core.Bool.{Bool, true, false, cond, not, _&&_, _||_}
+use mathlib.Core.Bool.{Bool, true, false, cond}
 use mathlib.Core.List.{List, [], _∷_, _++_, append-nil, append-assoc}
 use Prim.Native.Nat.{ℕ, zero, suc, _+_, _*_, _/_, _≤_, _<_}
 use native.Mathlib.Omega.{arith}
-use lib.Dec.{eqb, leb, ltb}
+use lib.Dec.{eqb}
 use lib.ListN.{length, getD, length-append}
 use lib.Ieee.{Float}
-use borrow.Author.Tests.{eqb-true, leb-true, not-false}
-use Rattle.geometry.specs.Rings.{Ring}
 use Rattle.state.specs.State.{State, Quad, nodes}
 use Rattle.input.specs.Job.{Job}
-use Rattle.state.specs.Outcome.{Outcome, refused, gives, firstOf, test}
-use Rattle.rules.specs.declared.Projection.{Projection}
-use Rattle.rules.specs.declared.Projection.the-variants.{At, Nothing}
-use Rattle.rules.specs.Projecting.{projectionNumber, projectionValues}
-use Rattle.rules.specs.Simple.{isSimple}
-use Rattle.rules.specs.Row.{every, projection, newPoints, old, new, newRing, newQuads, projects, inside, offBoundary, longEnough, clearOfFront, cornersPassAt, rowStands, committed, nextRow}
+use Rattle.state.specs.Outcome.{Outcome, refused, gives}
+use Rattle.rules.specs.Checks.{newQuads}
+use Rattle.rules.specs.Row.{front, newOf, rowStands, committed, nextRow}
 use Rattle.rules.specs.Passes.{passOrder, rowsInOrder, begun, onePass, somePasses}
-use Rattle.rules.proofs.Lists.{and-left, and-right, every-at}
-use Rattle.state.proofs.Outcomes.{gives-same, not-both, first-none, numbered-gives}
+use Rattle.state.proofs.Outcomes.{gives-same, not-both}
 use Rattle.rules.proofs.RowSides.{row-length}
 use Rattle.rules.proofs.Invariant.{Good}
+use Rattle.rules.proofs.Stands.{six, long, corners, granted}
 use Rattle.rules.proofs.RowGood.{row-good}
 
 abbrev pub GoodState : List (List ℕ) → State → Type 0
@@ -51,57 +46,22 @@ goes-on {s} {t} {u} x y = record {
 
 -- ---- a row
 
-values-length : (x : Projection) → eqb (projectionNumber x) 0 ≡ true → length (projectionValues x) ≡ 2
-values-length (At x y) e = refl
-values-length Nothing e = absurd (omega (arith, eqb-true 22 0 e))
-
-new-length : (r : Ring) (h : Float) (k : ℕ) → ((i : ℕ) → i < k → eqb (projectionNumber (projection r h i)) 0 ≡ true) → length (newPoints r h k) ≡ k * 2
-unfolding newPoints
-new-length r h zero p = refl
-new-length r h (suc k) p =
-    let e = new-length r h k (λ i l. p i (omega arith)) in
-    omega (arith, length-append (newPoints r h k) (projectionValues (projection r h k)), values-length (projection r h k) (p k (omega arith)))
-
-module _ (j : Job) (s : State) (li : ℕ) (stands : rowStands j s li ≡ true) where
-  abbrev n : ℕ
-  n = length (old j s li)
-
-  -- the eight checks, the last first
-  upTo7 : (leb 6 n && every (projects j s li) n && every (inside j s li) n && every (offBoundary j s li) n && every (longEnough j s li) n && every (clearOfFront j s li) (length (s .fronts)) && isSimple (newRing j s li)) ≡ true
-  unfolding rowStands
-  upTo7 = and-left _ (every (cornersPassAt j s li) n) stands
-
-  cornersHold : every (cornersPassAt j s li) n ≡ true
-  unfolding rowStands
-  cornersHold = and-right (leb 6 n && every (projects j s li) n && every (inside j s li) n && every (offBoundary j s li) n && every (longEnough j s li) n && every (clearOfFront j s li) (length (s .fronts)) && isSimple (newRing j s li)) _ stands
-
-  upTo2 : (leb 6 n && every (projects j s li) n) ≡ true
-  upTo2 = and-left _ _ (and-left _ _ (and-left _ _ (and-left _ _ (and-left _ _ upTo7))))
-
-  six : 6 ≤ n
-  six = leb-true 6 n (and-left _ _ upTo2)
-
-  long : length (new j s li) ≡ n * 2
-  long = new-length _ (j .h) n (λ i l. every-at (projects j s li) n i (and-right (leb 6 n) _ upTo2) l)
-
-  commits : Advances s (committed j s li)
-  unfolding committed
-  commits = record {
-    keeps = λ loops g. row-good loops (s .points) (s .quads) (s .fronts) li g (new j s li) six long (λ i l. every-at (cornersPassAt j s li) n i cornersHold l);
-    laidAll = λ e. sym (length-append (s .quads) (newQuads j s li) ∙ ap (λ k. length (s .quads) + k) (row-length (old j s li) (nodes s) n));
-    morePoints = new j s li;
-    pointsAre = refl;
-    moreQuads = newQuads j s li;
-    quadsAre = refl;
-  }
+commits : (j : Job) (s : State) (li : ℕ) → rowStands j (s .points) (s .fronts) li ≡ true → Advances s (committed s li (newOf j (s .points) (s .fronts) li))
+unfolding committed
+commits j s li stands =
+    let new = newOf j (s .points) (s .fronts) li in
+    let added = newQuads (s .points) (front s li) in
+    record {
+      keeps = λ loops g. row-good loops (s .points) (s .quads) (s .fronts) li g new (six j (s .points) (s .fronts) li stands) (long j (s .points) (s .fronts) li stands) (corners j (s .points) (s .fronts) li stands);
+      laidAll = λ e. sym (length-append (s .quads) added ∙ ap (λ k. length (s .quads) + k) (row-length (front s li) (nodes s) (length (front s li))));
+      morePoints = new;
+      pointsAre = refl;
+      moreQuads = added;
+      quadsAre = refl;
+    }
 
 pub row-advances : (j : Job) (s : State) (li : ℕ) (t : State) → nextRow j s li ≡ gives t → Advances s t
-unfolding nextRow
-row-advances j s li t e =
-    let m = length (old j s li) in
-    let all = numbered-gives (firstOf (test 22 (not (rowStands j s li)) ∷ test 21 (ltb 4096 (nodes s + m) || ltb 4096 (length (s .quads) + m)) ∷ [])) (committed j s li) t e in
-    let stands = not-false (rowStands j s li) (first-none 21 (not (rowStands j s li)) _ (all .0) .0) in
-    subst (λ u. Advances s u) (all .1) (commits j s li stands)
+row-advances j s li t e = let g = granted j s li t e in subst (λ u. Advances s u) (g .leaves) (commits j s li (g .stands))
 
 -- ---- a pass
 

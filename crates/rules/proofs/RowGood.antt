@@ -9,7 +9,7 @@ use lib.ListN.{length, getD, set, length-append}
 use lib.Ieee.{Float}
 use Rattle.geometry.specs.Rings.{next}
 use Rattle.state.specs.State.{Quad, quad, quadNodes, numbered}
-use Rattle.rules.specs.Row.{quadPasses, rowQuads}
+use Rattle.rules.specs.Checks.{quadPasses, rowQuads}
 use Rattle.pairs.specs.Pairs.{sides, sidesOfAll}
 use Rattle.rules.proofs.Lists.{all-append, below-or-from, twice}
 use Rattle.pairs.proofs.Occurs.{occurs, occursInAll, occurs-none, occurs-set, occurs-le, numbered-before, numbered-beyond, numbered-once}

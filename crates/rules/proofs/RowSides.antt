@@ -7,7 +7,7 @@ use native.Mathlib.Omega.{arith}
 use lib.ListN.{length, getD, length-append}
 use Rattle.geometry.specs.Rings.{next}
 use Rattle.state.specs.State.{Quad, quad, quadNodes, numbered}
-use Rattle.rules.specs.Row.{rowQuads}
+use Rattle.rules.specs.Checks.{rowQuads}
 use Rattle.pairs.specs.Pairs.{isPair, sum, sides, sidesOfAll}
 use Rattle.rules.proofs.Lists.{below-or-from}
 use Rattle.pairs.proofs.Sums.{sum-cong, sum-add, sum-none, sum-once, sum-next}

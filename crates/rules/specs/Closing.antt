@@ -11,7 +11,7 @@ use Rattle.geometry.specs.Measures.{quadArea, leastCorner}
 use Rattle.state.specs.Limits.{quadLimit}
 use Rattle.state.specs.State.{State, Quad, quad, joined}
 use Rattle.state.specs.Outcome.{Outcome, refused, gives}
-use Rattle.rules.specs.Row.{quadPasses}
+use Rattle.rules.specs.Checks.{quadPasses}
 
 -- `signed_quad_area` of a quad on a list of points
 abbrev pub areaOf : List Float → Quad → Float

@@ -9,7 +9,7 @@ use Rattle.state.specs.State.{State, Held, Lengths, quad, zeros, reading}
 use Rattle.input.specs.Job.{Job}
 use Rattle.state.specs.Outcome.{Outcome, refused, gives}
 use Rattle.sampling.specs.Sample.{sampled}
-use Rattle.rules.specs.Row.{quadPasses}
+use Rattle.rules.specs.Checks.{quadPasses}
 use Rattle.state.specs.Given.{member}
 use Rattle.state.specs.Call.{Left, numberOf}
 use Rattle.rules.specs.RowCall.{rowCall}

@@ -16,7 +16,7 @@ use Rattle.state.specs.Limits.{pointLimit, quadLimit}
 use Rattle.state.specs.State.{State, Quad, quad, nodes}
 use Rattle.input.specs.Job.{Job}
 use Rattle.state.specs.Outcome.{Outcome, refused, gives, firstOf, test}
-use Rattle.rules.specs.Row.{every, quadPasses}
+use Rattle.rules.specs.Checks.{every, quadPasses}
 use Rattle.rules.specs.Closing.{turnedQuad}
 
 -- ---- the box of a front's first k points

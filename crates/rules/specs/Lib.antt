@@ -1,5 +1,6 @@
 pub mod Projecting
 pub mod Simple
+pub mod Checks
 pub mod Row
 pub mod RowCall
 pub mod Passes
