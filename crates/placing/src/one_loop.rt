@@ -58,7 +58,18 @@ fn plan_and_place(
         return Made::Refused(10);
     }
     let longer = longer_side(odd, p.longest, n);
-    let placed = place(pts, n, back, h, corner_margin, lengths, spans, longer, points, at);
+    let placed = place(
+        pts,
+        n,
+        back,
+        h,
+        corner_margin,
+        lengths,
+        spans,
+        longer,
+        points,
+        at,
+    );
     if placed < 4 {
         return Made::Refused(8);
     }
