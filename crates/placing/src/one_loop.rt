@@ -5,31 +5,21 @@ ghost use Prim.Native.Nat.{_+_, _*_, _≤_, _<_};
 ghost use lib.Dec.{eqb};
 ghost use lib.ListN as lists;
 ghost use Rattle.geometry.specs.Rings.{Ring, ringOf};
-ghost use Rattle.sampling.specs.Loop as loops;
-ghost use Rattle.sampling.specs.Backwards.{turnedIf};
-ghost use Rattle.sampling.specs.Placing.{Written, outcome, placedNumber};
-use crate::Options;
-use crate::keep::all_apart;
-use crate::keep::keep;
+ghost use Rattle.state.specs.Limits.{frontNodeLimit};
+ghost use Rattle.planning.specs.Ring as rings;
+ghost use Rattle.planning.specs.Backwards.{turnedIf};
+ghost use Rattle.placing.specs.Loop as loops;
+ghost use Rattle.placing.specs.Placing.{MadeIs, placedOutcome};
 use crate::place::place;
-use crate::plan::plan_sides;
-use crate::ring::kept_ring;
+use planning::all_apart;
+use planning::keep_points;
+use planning::kept_ring;
+use planning::plan_sides;
 
-// A refusal's number, or 0 with the nodes planned and the nodes placed.
-pub struct Made {
-    pub number: u32,
-    pub planned: usize,
-    pub placed: usize,
-}
-
-fn refused(number: u32) -> Made
-    ensures { λ r. ⌜ r .number ≡ number ⌝ }
-{
-    Made {
-        number,
-        planned: 0,
-        placed: 0,
-    }
+// One loop sampled: the nodes planned and the nodes placed, or the number of its refusal.
+pub enum Made {
+    Nodes { planned: usize, placed: usize },
+    Refused(u32),
 }
 
 // The side that gets one more inner point; `n`, which is no side, if the nodes are even in number.
@@ -48,38 +38,45 @@ fn plan_and_place(
     n: usize,
     back: bool,
     h: f64,
-    options: Options,
+    corner_margin: f64,
     before: usize,
     lengths: &mut [f64],
     spans: &mut [f64],
     points: &mut [f64],
     at: usize,
 ) -> Made
-    requires { ⌜ (n * 2 ≤ lists.length (now pts)) × (0 < n) × (n ≤ 2048) × (n ≤ lists.length (now lengths)) × (n ≤ lists.length (now spans)) ⌝ }
-    requires { ⌜ (at ≤ before) × (before ≤ 2048) × (4096 ≤ lists.length (now points)) ⌝ }
-    ensures { λ r. ⌜ (r .number ≡ placedNumber h options before (turnedIf back (ringOf (now (pts .entry)) n)))
-        × (r .number ≡ 0 → Written h options (turnedIf back (ringOf (now (pts .entry)) n)) before at (r .planned) (r .placed) (now (points .entry)) (now (points .exit))) ⌝ }
+    requires { ⌜ (n * 2 ≤ lists.length (now pts)) × (0 < n) × (n ≤ frontNodeLimit) × (n ≤ lists.length (now lengths)) × (n ≤ lists.length (now spans)) ⌝ }
+    requires { ⌜ (at ≤ before) × (before ≤ frontNodeLimit) × (frontNodeLimit * 2 ≤ lists.length (now points)) ⌝ }
+    ensures { λ r. ⌜ MadeIs h «corner_margin» (turnedIf back (ringOf (now (pts .entry)) n)) before at (now (points .entry)) (now (points .exit))
+        (placedOutcome h «corner_margin» before (turnedIf back (ringOf (now (pts .entry)) n))) r ⌝ }
 {
-    let p = plan_sides(pts, n, back, h, options, lengths, spans);
+    let p = plan_sides(pts, n, back, h, corner_margin, lengths, spans);
     let total = p.total;
     let odd = total % 2;
     let planned = total + odd;
     if 2048 < before + planned {
-        return refused(10);
+        return Made::Refused(10);
     }
     let longer = longer_side(odd, p.longest, n);
-    let placed = place(pts, n, back, h, options, lengths, spans, longer, points, at);
+    let placed = place(
+        pts,
+        n,
+        back,
+        h,
+        corner_margin,
+        lengths,
+        spans,
+        longer,
+        points,
+        at,
+    );
     if placed < 4 {
-        return refused(8);
+        return Made::Refused(8);
     }
     if placed % 2 == 1 {
-        return refused(9);
+        return Made::Refused(9);
     }
-    Made {
-        number: 0,
-        planned,
-        placed,
-    }
+    Made::Nodes { planned, placed }
 }
 
 // Samples any loop of which these points are kept and writes its nodes from place `at` on.
@@ -88,23 +85,22 @@ fn sample_kept(
     kept: usize,
     ccw: bool,
     h: f64,
-    options: Options,
+    corner_margin: f64,
     before: usize,
     lengths: &mut [f64],
     spans: &mut [f64],
     points: &mut [f64],
     at: usize,
 ) -> Made
-    requires { ⌜ (kept * 2 ≡ lists.length (now pts)) × (kept ≤ 2048) × (kept ≤ lists.length (now lengths)) × (kept ≤ lists.length (now spans)) ⌝ }
-    requires { ⌜ (at ≤ before) × (before ≤ 2048) × (4096 ≤ lists.length (now points)) ⌝ }
-    ensures { λ r. ⌜ ((given : Ring) → now (pts .entry) ≡ loops.kept given (given .size)
-        → (loops.sampleLoop h options before ccw given ≡ outcome (r .number) (loops.placed h options (loops.loopRing ccw given) (loops.loopRing ccw given .size)))
-        × (r .number ≡ 0 → Written h options (loops.loopRing ccw given) before at (r .planned) (r .placed) (now (points .entry)) (now (points .exit)))) ⌝ }
+    requires { ⌜ (kept * 2 ≡ lists.length (now pts)) × (kept ≤ frontNodeLimit) × (kept ≤ lists.length (now lengths)) × (kept ≤ lists.length (now spans)) ⌝ }
+    requires { ⌜ (at ≤ before) × (before ≤ frontNodeLimit) × (frontNodeLimit * 2 ≤ lists.length (now points)) ⌝ }
+    ensures { λ r. ⌜ ((given : Ring) → now (pts .entry) ≡ rings.kept given (given .size)
+        → MadeIs h «corner_margin» (rings.loopRing ccw given) before at (now (points .entry)) (now (points .exit)) (loops.sampleLoop h «corner_margin» before ccw given) r) ⌝ }
 {
     let ring = kept_ring(pts, kept, ccw);
     let size = ring.size;
     if size < 3 {
-        return refused(7);
+        return Made::Refused(7);
     }
     let back = ring.back;
     plan_and_place(
@@ -112,7 +108,7 @@ fn sample_kept(
         size,
         back,
         h,
-        options,
+        corner_margin,
         before,
         lengths,
         spans,
@@ -128,7 +124,7 @@ pub fn sample_loop(
     n: usize,
     ccw: bool,
     h: f64,
-    options: Options,
+    corner_margin: f64,
     before: usize,
     buffer: &mut [f64],
     lengths: &mut [f64],
@@ -136,11 +132,10 @@ pub fn sample_loop(
     points: &mut [f64],
     at: usize,
 ) -> Made
-    requires { ⌜ (n * 2 ≤ lists.length (now coords)) × (n ≤ 2048) × (n * 2 ≤ lists.length (now buffer)) × (n ≤ lists.length (now lengths)) × (n ≤ lists.length (now spans)) ⌝ }
-    requires { ⌜ (at ≤ before) × (before ≤ 2048) × (4096 ≤ lists.length (now points)) ⌝ }
-    ensures { λ r. ⌜ (loops.sampleLoop h options before ccw (ringOf (now (coords .entry)) n)
-        ≡ outcome (r .number) (loops.placed h options (loops.loopRing ccw (ringOf (now (coords .entry)) n)) (loops.loopRing ccw (ringOf (now (coords .entry)) n) .size)))
-        × (r .number ≡ 0 → Written h options (loops.loopRing ccw (ringOf (now (coords .entry)) n)) before at (r .planned) (r .placed) (now (points .entry)) (now (points .exit))) ⌝ }
+    requires { ⌜ (n * 2 ≤ lists.length (now coords)) × (n ≤ frontNodeLimit) × (n * 2 ≤ lists.length (now buffer)) × (n ≤ lists.length (now lengths)) × (n ≤ lists.length (now spans)) ⌝ }
+    requires { ⌜ (at ≤ before) × (before ≤ frontNodeLimit) × (frontNodeLimit * 2 ≤ lists.length (now points)) ⌝ }
+    ensures { λ r. ⌜ MadeIs h «corner_margin» (rings.loopRing ccw (ringOf (now (coords .entry)) n)) before at (now (points .entry)) (now (points .exit))
+        (loops.sampleLoop h «corner_margin» before ccw (ringOf (now (coords .entry)) n)) r ⌝ }
 {
     if all_apart(coords, n) {
         let end = n * 2;
@@ -149,7 +144,7 @@ pub fn sample_loop(
             n,
             ccw,
             h,
-            options,
+            corner_margin,
             before,
             lengths,
             spans,
@@ -157,14 +152,14 @@ pub fn sample_loop(
             at,
         );
     }
-    let kept = keep(coords, n, buffer);
+    let kept = keep_points(coords, n, buffer);
     let end = kept * 2;
     sample_kept(
         &buffer[..end],
         kept,
         ccw,
         h,
-        options,
+        corner_margin,
         before,
         lengths,
         spans,

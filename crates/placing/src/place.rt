@@ -9,14 +9,15 @@ ghost use lib.IntN.{pos};
 ghost use lib.ListN as lists;
 ghost use lib.Seq.{sets};
 ghost use Rattle.geometry.specs.Rings.{ringOf};
-ghost use Rattle.sampling.specs.Loop as loops;
-ghost use Rattle.sampling.specs.Backwards.{turnedIf};
-ghost use Rattle.sampling.specs.Placing.{between, betweens};
-use crate::Options;
-use crate::plan::inner_of;
-use crate::ring::ring_point;
-use crate::sides::margin_at;
+ghost use Rattle.state.specs.Limits.{frontNodeLimit};
+ghost use Rattle.planning.specs.Plan as plans;
+ghost use Rattle.planning.specs.Backwards.{turnedIf};
+ghost use Rattle.placing.specs.Placed as laid;
+ghost use Rattle.placing.specs.Placing.{between, betweens};
 use geometry::Point;
+use planning::inner_of;
+use planning::margin_at;
+use planning::ring_point;
 
 fn whole(n: usize) -> f64
     requires { ⌜ n < 4096 ⌝ }
@@ -77,7 +78,7 @@ fn place_side(
     n: usize,
     back: bool,
     h: f64,
-    options: Options,
+    corner_margin: f64,
     i: usize,
     length: f64,
     span: f64,
@@ -85,15 +86,15 @@ fn place_side(
     points: &mut [f64],
     at: usize,
 ) -> usize
-    requires { ⌜ (n * 2 ≤ lists.length (now pts)) × (i < n) × (length ≡ loops.lengthOf h options (turnedIf back (ringOf (now pts) n)) i) × (span ≡ loops.span h options (turnedIf back (ringOf (now pts) n)) i) ⌝ }
-    requires { ⌜ loops.parts h options (turnedIf back (ringOf (now pts) n)) i ≡ loops.inner h options (turnedIf back (ringOf (now pts) n)) i + cond (eqb i longer) 1 0 ⌝ }
-    requires { ⌜ (at + 1 + loops.parts h options (turnedIf back (ringOf (now pts) n)) i ≤ 2048) × (4096 ≤ lists.length (now points)) ⌝ }
-    ensures { λ r. ⌜ (r ≡ loops.placedOn h options (turnedIf back (ringOf (now (pts .entry)) n)) i + 1)
+    requires { ⌜ (n * 2 ≤ lists.length (now pts)) × (i < n) × (length ≡ plans.sideAt (turnedIf back (ringOf (now pts) n)) i) × (span ≡ plans.span h «corner_margin» (turnedIf back (ringOf (now pts) n)) i) ⌝ }
+    requires { ⌜ plans.parts h «corner_margin» (turnedIf back (ringOf (now pts) n)) i ≡ plans.inner h «corner_margin» (turnedIf back (ringOf (now pts) n)) i + cond (eqb i longer) 1 0 ⌝ }
+    requires { ⌜ (at + 1 + plans.parts h «corner_margin» (turnedIf back (ringOf (now pts) n)) i ≤ frontNodeLimit) × (frontNodeLimit * 2 ≤ lists.length (now points)) ⌝ }
+    ensures { λ r. ⌜ (r ≡ laid.placedOn h «corner_margin» (turnedIf back (ringOf (now (pts .entry)) n)) i + 1)
         × (now (points .exit) ≡ sets (now (points .entry)) (at * 2)
         (turnedIf back (ringOf (now (pts .entry)) n) .at i .x ∷ turnedIf back (ringOf (now (pts .entry)) n) .at i .y
-        ∷ loops.innerPoints h options (turnedIf back (ringOf (now (pts .entry)) n)) i
-        (loops.parts h options (turnedIf back (ringOf (now (pts .entry)) n)) i)
-        (loops.placedOn h options (turnedIf back (ringOf (now (pts .entry)) n)) i))) ⌝ }
+        ∷ laid.innerPoints h «corner_margin» (turnedIf back (ringOf (now (pts .entry)) n)) i
+        (plans.parts h «corner_margin» (turnedIf back (ringOf (now (pts .entry)) n)) i)
+        (laid.placedOn h «corner_margin» (turnedIf back (ringOf (now (pts .entry)) n)) i))) ⌝ }
 {
     let a = ring_point(pts, n, back, i);
     geometry::put_point(points, at, a.x, a.y);
@@ -106,7 +107,7 @@ fn place_side(
     }
     let j = geometry::next_of(n, i);
     let b = ring_point(pts, n, back, j);
-    let margin = margin_at(pts, n, back, h, options, i);
+    let margin = margin_at(pts, n, back, h, corner_margin, i);
     place_inner(a, b, length, margin, span, k, points, at + 1);
     k + 1
 }
@@ -117,7 +118,7 @@ pub fn place(
     n: usize,
     back: bool,
     h: f64,
-    options: Options,
+    corner_margin: f64,
     lengths: &[f64],
     spans: &[f64],
     longer: usize,
@@ -125,13 +126,13 @@ pub fn place(
     at: usize,
 ) -> usize
     requires { ⌜ (n * 2 ≤ lists.length (now pts)) × (n ≤ lists.length (now lengths)) × (n ≤ lists.length (now spans)) ⌝ }
-    requires { ⌜ ((i : ℕ) → i < n → lists.getD (now lengths) i nan ≡ loops.lengthOf h options (turnedIf back (ringOf (now pts) n)) i) ⌝ }
-    requires { ⌜ ((i : ℕ) → i < n → lists.getD (now spans) i nan ≡ loops.span h options (turnedIf back (ringOf (now pts) n)) i) ⌝ }
-    requires { ⌜ ((i : ℕ) → i < n → loops.parts h options (turnedIf back (ringOf (now pts) n)) i ≡ loops.inner h options (turnedIf back (ringOf (now pts) n)) i + cond (eqb i longer) 1 0) ⌝ }
-    requires { ⌜ (at + loops.planned h options (turnedIf back (ringOf (now pts) n)) ≤ 2048) × (4096 ≤ lists.length (now points)) ⌝ }
-    ensures { λ r. ⌜ (r * 2 ≡ lists.length (loops.placed h options (turnedIf back (ringOf (now (pts .entry)) n)) n))
-        × (r ≤ loops.planned h options (turnedIf back (ringOf (now (pts .entry)) n)))
-        × (now (points .exit) ≡ sets (now (points .entry)) (at * 2) (loops.placed h options (turnedIf back (ringOf (now (pts .entry)) n)) n)) ⌝ }
+    requires { ⌜ ((i : ℕ) → i < n → lists.getD (now lengths) i nan ≡ plans.sideAt (turnedIf back (ringOf (now pts) n)) i) ⌝ }
+    requires { ⌜ ((i : ℕ) → i < n → lists.getD (now spans) i nan ≡ plans.span h «corner_margin» (turnedIf back (ringOf (now pts) n)) i) ⌝ }
+    requires { ⌜ ((i : ℕ) → i < n → plans.parts h «corner_margin» (turnedIf back (ringOf (now pts) n)) i ≡ plans.inner h «corner_margin» (turnedIf back (ringOf (now pts) n)) i + cond (eqb i longer) 1 0) ⌝ }
+    requires { ⌜ (at + plans.planned h «corner_margin» (turnedIf back (ringOf (now pts) n)) ≤ frontNodeLimit) × (frontNodeLimit * 2 ≤ lists.length (now points)) ⌝ }
+    ensures { λ r. ⌜ (r * 2 ≡ lists.length (laid.placed h «corner_margin» (turnedIf back (ringOf (now (pts .entry)) n)) n))
+        × (r ≤ plans.planned h «corner_margin» (turnedIf back (ringOf (now (pts .entry)) n)))
+        × (now (points .exit) ≡ sets (now (points .entry)) (at * 2) (laid.placed h «corner_margin» (turnedIf back (ringOf (now (pts .entry)) n)) n)) ⌝ }
 {
     let mut placed = 0usize;
     let mut i = 0usize;
@@ -143,7 +144,7 @@ pub fn place(
             n,
             back,
             h,
-            options,
+            corner_margin,
             i,
             length,
             span,

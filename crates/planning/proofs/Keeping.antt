@@ -12,9 +12,9 @@ use lib.Ieee.{Float, nan}
 use borrow.Author.Tests.{lt-ltb}
 use Rattle.geometry.specs.declared.Point.{Point}
 use Rattle.geometry.specs.Rings.{Ring, pointAt}
-use Rattle.sampling.specs.Loop.{close, kept, unclosed}
-use Rattle.sampling.specs.Kept.{closeToLast}
-use Rattle.sampling.proofs.Stores.{front-at, point-behind, set-back}
+use Rattle.planning.specs.Ring.{close, kept, unclosed}
+use Rattle.planning.specs.Kept.{closeToLast}
+use Rattle.state.proofs.Stores.{front-at, point-behind, set-back}
 
 -- ---- dropping
 

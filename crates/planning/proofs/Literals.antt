@@ -3,17 +3,7 @@ use mathlib.Core.Path.{_≡_, refl}
 use lib.Ieee.{binary64, ofBits, round}
 use Rattle.float.specs.Helpers.{decimal}
 
--- 1e-12
-pub tiny-is : ofBits binary64 0x3D719799812DEA11 ≡ decimal 1 12
-unfolding round ofBits
-tiny-is = refl
-
 -- 0.6
 pub small-is : ofBits binary64 0x3FE3333333333333 ≡ decimal 6 1
 unfolding round ofBits
 small-is = refl
-
--- 0.5
-pub half-is : ofBits binary64 0x3FE0000000000000 ≡ decimal 5 1
-unfolding round ofBits
-half-is = refl

@@ -12,9 +12,8 @@ use Rattle.geometry.specs.F64.{_⊗_}
 use Rattle.geometry.specs.declared.Point.{Point}
 use Rattle.geometry.specs.Rings.{Ring, next, prev}
 use Rattle.geometry.specs.Measures.{toward, cross, dot, sharpTurn, sharpAt, sideLength}
-use Rattle.input.specs.declared.Options.{Options}
-use Rattle.sampling.specs.Loop.{margin, lengthOf}
-use Rattle.sampling.specs.Side.{along, square}
+use Rattle.planning.specs.Plan.{margin, sideAt}
+use Rattle.planning.specs.Side.{along, square}
 
 -- the corner that a turn hands on: the first again after the last
 abbrev pub corner : ℕ → ℕ → ℕ
@@ -42,12 +41,13 @@ back-again n i g = go (eqb (i + 1) n) refl
     go true e = rw e (last n i (eqb-true (i + 1) n e))
     go false e = rw (e, ne-eqb (i + 1) 0 (λ (q : i + 1 ≡ 0). positive i q)) (less i)
 
-module _ (h : Float) (o : Options) (r : Ring) where
-  pub margin-is : (i : ℕ) (t : Bool) (m : Float) → t ≡ sharpAt r i → m ≡ cond t (o .«corner_margin» ⊗ h) (decimal 0 0) → m ≡ margin h o r i
-  unfolding margin
-  margin-is i t m e f = rw (f, e)
+pub margin-is : (h cornerMargin : Float) (r : Ring) (i : ℕ) (t : Bool) (m : Float) → t ≡ sharpAt r i → m ≡ cond t (cornerMargin ⊗ h) (decimal 0 0)
+    → m ≡ margin h cornerMargin r i
+unfolding margin
+margin-is h cornerMargin r i t m e f = rw (f, e)
 
-  pub length-is : (i : ℕ) (s l : Float) → s ≡ square (along r i) → l ≡ root s → l ≡ lengthOf h o r i
+module _ (r : Ring) where
+  pub length-is : (i : ℕ) (s l : Float) → s ≡ square (along r i) → l ≡ root s → l ≡ sideAt r i
   unfolding sideLength
   length-is i s l e f = rw (f, e)
 

@@ -10,8 +10,8 @@ use Rattle.float.specs.Helpers.{decimal}
 use Rattle.geometry.specs.declared.Point.{Point}
 use Rattle.geometry.specs.Rings.{Ring, ringOf, next, prev}
 use Rattle.geometry.specs.Measures.{toward, cross, dot, sharpAt, sharpTurn, signedArea}
-use Rattle.sampling.specs.Loop.{kept, unclosed, turned, loopRing}
-use Rattle.sampling.specs.Backwards.{turnedIf}
+use Rattle.planning.specs.Ring.{kept, unclosed, turned, loopRing}
+use Rattle.planning.specs.Backwards.{turnedIf}
 
 pub sharp-step : (r : Ring) (i h j : ℕ) (a b c d e : Point) (t : Bool) → h ≡ prev (r .size) i → j ≡ next (r .size) i → a ≡ r .at h → b ≡ r .at i → c ≡ r .at j
     → d ≡ toward a b → e ≡ toward b c → t ≡ sharpTurn (cross d e) (dot d e) → t ≡ sharpAt r i

@@ -7,8 +7,8 @@ ghost use lib.ListN.{length, set, take};
 ghost use lib.Seq.{sets};
 ghost use Rattle.float.specs.Helpers.{absolute, decimal};
 ghost use Rattle.geometry.specs.Rings.{ringOf};
-ghost use Rattle.sampling.specs.Loop as loops;
-ghost use Rattle.sampling.specs.Kept.{closeToLast};
+ghost use Rattle.planning.specs.Ring as rings;
+ghost use Rattle.planning.specs.Kept.{closeToLast};
 use geometry::Point;
 
 // A magnitude below 1e-12, tested on either side.
@@ -23,7 +23,7 @@ fn tiny(d: f64) -> bool
 
 // Both coordinate differences are below 1e-12.
 fn close(a: Point, b: Point) -> bool
-    ensures { λ r. ⌜ r ≡ loops.close a b ⌝ }
+    ensures { λ r. ⌜ r ≡ rings.close a b ⌝ }
 {
     if tiny(a.x - b.x) {
         return tiny(a.y - b.y);
@@ -56,9 +56,9 @@ fn keep_point(kept: &mut [f64], m: usize, p: Point) -> usize
 }
 
 // Keeps the first `n` points, without those close to the last kept; answers how many are kept.
-pub fn keep(coords: &[f64], n: usize, kept: &mut [f64]) -> usize
+pub fn keep_points(coords: &[f64], n: usize, kept: &mut [f64]) -> usize
     requires { ⌜ (n * 2 ≤ length (now coords)) × (n * 2 ≤ length (now kept)) ⌝ }
-    ensures { λ r. ⌜ (r ≤ n) × (r * 2 ≡ length (loops.kept (ringOf (now (coords .entry)) n) n)) × (now (kept .exit) ≡ sets (now (kept .entry)) 0 (loops.kept (ringOf (now (coords .entry)) n) n)) ⌝ }
+    ensures { λ r. ⌜ (r ≤ n) × (r * 2 ≡ length (rings.kept (ringOf (now (coords .entry)) n) n)) × (now (kept .exit) ≡ sets (now (kept .entry)) 0 (rings.kept (ringOf (now (coords .entry)) n) n)) ⌝ }
 {
     let mut m = 0usize;
     let mut k = 0usize;
@@ -73,7 +73,7 @@ pub fn keep(coords: &[f64], n: usize, kept: &mut [f64]) -> usize
 // Whether no point of the first `n` is close to the one before, so that all are kept.
 pub fn all_apart(coords: &[f64], n: usize) -> bool
     requires { ⌜ n * 2 ≤ length (now coords) ⌝ }
-    ensures { λ r. ⌜ (r ≡ true → take (n * 2) (now (coords .entry)) ≡ loops.kept (ringOf (now (coords .entry)) n) n) ⌝ }
+    ensures { λ r. ⌜ (r ≡ true → take (n * 2) (now (coords .entry)) ≡ rings.kept (ringOf (now (coords .entry)) n) n) ⌝ }
 {
     let mut k = 0usize;
     while k < n {
@@ -89,7 +89,7 @@ pub fn all_apart(coords: &[f64], n: usize) -> bool
 // How many of the first `n` points are left when last points close to the first are popped.
 pub fn unclosed(kept: &[f64], n: usize) -> usize
     requires { ⌜ n * 2 ≤ length (now kept) ⌝ }
-    ensures { λ r. ⌜ (r ≡ loops.unclosed (now (kept .entry)) n) × (r ≤ n) ⌝ }
+    ensures { λ r. ⌜ (r ≡ rings.unclosed (now (kept .entry)) n) × (r ≤ n) ⌝ }
 {
     let mut m = n;
     while 1 < m {

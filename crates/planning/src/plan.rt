@@ -3,16 +3,15 @@ ghost use mathlib.Core.Path.{_≡_};
 ghost use mathlib.Core.Bool.{cond, _&&_};
 ghost use Prim.Native.Nat.{ℕ, _+_, _*_, _≤_, _<_, max, min};
 ghost use lib.Dec.{eqb};
-ghost use lib.Ieee.{lt, nan};
+ghost use lib.Ieee.{Float, lt, nan};
 ghost use lib.ListN.{getD, length};
 ghost use Rattle.float.specs.Helpers.{decimal, greater, roundAway};
 ghost use Rattle.geometry.specs.F64.{_⊖_, _⊗_, _⊘_};
 ghost use Rattle.geometry.specs.Rings.{Ring, ringOf};
-ghost use Rattle.input.specs.declared.Options as declared;
-ghost use Rattle.sampling.specs.Loop as loops;
-ghost use Rattle.sampling.specs.Backwards.{turnedIf};
-ghost use Rattle.sampling.specs.Measured.{Measured};
-use crate::Options;
+ghost use Rattle.state.specs.Limits.{frontNodeLimit};
+ghost use Rattle.planning.specs.Plan as plans;
+ghost use Rattle.planning.specs.Backwards.{turnedIf};
+ghost use Rattle.planning.specs.Measured.{Measured};
 use crate::sides::measure_sides;
 
 // The nodes planned, where inner points over 2,048 count as 2,049; and the longest side with a positive span.
@@ -89,10 +88,10 @@ fn margin_behind(margins: &[f64], first: f64, j: usize) -> f64
 
 // Plans the sides of any ring that has these lengths and margins. Each margin gives way to the side's span.
 fn plan_measured(n: usize, h: f64, lengths: &[f64], spans: &mut [f64]) -> Plan
-    requires { ⌜ (0 < n) × (n ≤ 2048) × (n ≤ length (now lengths)) × (n ≤ length (now spans)) ⌝ }
-    ensures { λ r. ⌜ ((o : declared.Options) (ring : Ring) → Measured h o ring n (now (lengths .entry)) (now (spans .entry))
-        → (r .total ≡ n + min (loops.innerSum h o ring n) 2049) × (r .longest ≡ loops.longest h o ring n .0)
-        × ((i : ℕ) → i < n → getD (now (spans .exit)) i nan ≡ loops.span h o ring i)) ⌝ }
+    requires { ⌜ (0 < n) × (n ≤ frontNodeLimit) × (n ≤ length (now lengths)) × (n ≤ length (now spans)) ⌝ }
+    ensures { λ r. ⌜ ((cornerMargin : Float) (ring : Ring) → Measured h cornerMargin ring n (now (lengths .entry)) (now (spans .entry))
+        → (r .total ≡ n + min (plans.innerSum h cornerMargin ring n) 2049) × (r .longest ≡ plans.longest h cornerMargin ring n .0)
+        × ((i : ℕ) → i < n → getD (now (spans .exit)) i nan ≡ plans.span h cornerMargin ring i)) ⌝ }
 {
     let first = spans[0];
     let mut sum = 0usize;
@@ -124,16 +123,16 @@ pub fn plan_sides(
     n: usize,
     back: bool,
     h: f64,
-    options: Options,
+    corner_margin: f64,
     lengths: &mut [f64],
     spans: &mut [f64],
 ) -> Plan
-    requires { ⌜ (n * 2 ≤ length (now pts)) × (0 < n) × (n ≤ 2048) × (n ≤ length (now lengths)) × (n ≤ length (now spans)) ⌝ }
-    ensures { λ r. ⌜ (r .total ≡ n + min (loops.innerSum h options (turnedIf back (ringOf (now (pts .entry)) n)) n) 2049)
-        × (r .longest ≡ loops.longest h options (turnedIf back (ringOf (now (pts .entry)) n)) n .0)
-        × ((i : ℕ) → i < n → getD (now (lengths .exit)) i nan ≡ loops.lengthOf h options (turnedIf back (ringOf (now (pts .entry)) n)) i)
-        × ((i : ℕ) → i < n → getD (now (spans .exit)) i nan ≡ loops.span h options (turnedIf back (ringOf (now (pts .entry)) n)) i) ⌝ }
+    requires { ⌜ (n * 2 ≤ length (now pts)) × (0 < n) × (n ≤ frontNodeLimit) × (n ≤ length (now lengths)) × (n ≤ length (now spans)) ⌝ }
+    ensures { λ r. ⌜ (r .total ≡ n + min (plans.innerSum h «corner_margin» (turnedIf back (ringOf (now (pts .entry)) n)) n) 2049)
+        × (r .longest ≡ plans.longest h «corner_margin» (turnedIf back (ringOf (now (pts .entry)) n)) n .0)
+        × ((i : ℕ) → i < n → getD (now (lengths .exit)) i nan ≡ plans.sideAt (turnedIf back (ringOf (now (pts .entry)) n)) i)
+        × ((i : ℕ) → i < n → getD (now (spans .exit)) i nan ≡ plans.span h «corner_margin» (turnedIf back (ringOf (now (pts .entry)) n)) i) ⌝ }
 {
-    measure_sides(pts, n, back, h, options, lengths, spans);
+    measure_sides(pts, n, back, h, corner_margin, lengths, spans);
     plan_measured(n, h, lengths, spans)
 }

@@ -7,8 +7,8 @@ ghost use lib.ListN.{length};
 ghost use Rattle.float.specs.Helpers.{decimal};
 ghost use Rattle.geometry.specs.Rings.{Ring, ringOf};
 ghost use Rattle.geometry.specs.Measures as measures;
-ghost use Rattle.sampling.specs.Loop as loops;
-ghost use Rattle.sampling.specs.Backwards.{turnedIf};
+ghost use Rattle.planning.specs.Ring as rings;
+ghost use Rattle.planning.specs.Backwards.{turnedIf};
 use crate::keep::unclosed;
 use geometry::Point;
 
@@ -74,7 +74,7 @@ fn turns(pts: &[f64], n: usize, ccw: bool) -> bool
 pub fn kept_ring(pts: &[f64], kept: usize, ccw: bool) -> Turned
     requires { ⌜ kept * 2 ≡ length (now pts) ⌝ }
     ensures { λ r. ⌜ (r .size ≤ kept)
-        × ((given : Ring) → now (pts .entry) ≡ loops.kept given (given .size) → loops.loopRing ccw given ≡ turnedIf (r .back) (ringOf (now (pts .entry)) (r .size))) ⌝ }
+        × ((given : Ring) → now (pts .entry) ≡ rings.kept given (given .size) → rings.loopRing ccw given ≡ turnedIf (r .back) (ringOf (now (pts .entry)) (r .size))) ⌝ }
 {
     let size = unclosed(pts, kept);
     let back = turns(pts, size, ccw);

@@ -1,7 +1,7 @@
 -- The loops in turn: what has been sampled and written when k loops are done, and one loop more.
 use mathlib.Core.Path.{_≡_, refl, sym, ap, subst, _∙_}
 use mathlib.Core.Bool.{Bool, true, false, cond}
-use mathlib.Core.List.{List, [], _∷_, _++_, map, append-nil, append-assoc}
+use mathlib.Core.List.{List, [], _∷_, _++_, map, append-nil, map-append}
 use Prim.Native.Nat.{ℕ, zero, suc, _+_, _-_, _*_, _/_, _≤_, _<_}
 use native.Mathlib.Nat.{add-zero, zero-add, le-of-eq, le-trans}
 use native.Mathlib.Numerals.{add-one}
@@ -10,47 +10,38 @@ use lib.ListN.{length, getD, take, drop, set, length-append, length-drop, drop-o
 use lib.Dec.{eqb}
 use lib.Seq.{sets, drop-cons, drop-drop, take-all}
 use lib.Ieee.{Float}
-use borrow.Author.Tests.{eq-eqb, ne-eqb}
+use borrow.Author.Tests.{ne-eqb}
 use Rattle.geometry.specs.Rings.{Ring, ringOf}
 use Rattle.geometry.specs.Domain.{rings, sumOf}
-use Rattle.input.specs.declared.Options.{Options}
-use Rattle.sampling.specs.State.{State, joined}
-use Rattle.sampling.specs.Job.{Job, Outcome, refused, gives}
-use Rattle.sampling.specs.Loop.{loopRing, planned, placed, sampleLoop}
-use Rattle.sampling.specs.Sample.{numbered, withLoop, sampleFrom, sampled}
-use Rattle.sampling.specs.Call.{job}
-use Rattle.sampling.specs.Placing.{Written, outcome}
-use Rattle.sampling.specs.Sampled.{ofLoops, Sampled}
-use Rattle.sampling.proofs.Stores.{sets-append, store-behind}
-
--- ---- node numbers
-
-pub numbered-more : (first i : ℕ) → numbered first (i + 1) ≡ numbered first i ++ ((first + i) ∷ [])
-unfolding numbered
-numbered-more first i = rw add-one (go first i)
-  where
-    go : (first i : ℕ) → numbered first (suc i) ≡ numbered first i ++ ((first + i) ∷ [])
-    go first zero = ap (λ (n : ℕ). n ∷ []) (sym (add-zero first))
-    go first (suc i) = ap (λ (t : List ℕ). first ∷ t) (go (suc first) i ∙ ap (λ (n : ℕ). numbered (suc first) i ++ (n ∷ [])) (move first i))
-      where
-        move : (a b : ℕ) → suc a + b ≡ a + suc b
-        move a b = omega arith
-
-pub length-numbered : (first n : ℕ) → length (numbered first n) ≡ n
-unfolding numbered
-length-numbered first zero = refl
-length-numbered first (suc n) = ap suc (length-numbered (suc first) n)
+use Rattle.state.specs.Limits.{frontNodeLimit}
+use Rattle.state.specs.State.{State, joined, numbered}
+use Rattle.state.specs.Outcome.{Outcome, refused, gives}
+use Rattle.state.proofs.Stores.{sets-append, store-behind}
+use Rattle.state.proofs.Growing.{length-numbered, joined-append}
+use Rattle.planning.specs.Ring.{loopRing}
+use Rattle.planning.specs.Plan.{planned}
+use Rattle.placing.specs.Placed.{placed}
+use Rattle.placing.specs.Loop.{sampleLoop}
+use Rattle.placing.specs.declared.one_loop.Made.{Made}
+use Rattle.placing.specs.declared.one_loop.Made.the-variants.{Nodes}
+use Rattle.placing.specs.Placing.{MadeIs, Written}
+use Rattle.sampling.specs.Sample.{withLoop, sampleFrom}
+use Rattle.sampling.specs.Sampled.{ofLoops, allLoops, Sampled}
 
 -- ---- fronts
 
 joined-more : (fs : List (List ℕ)) (f : List ℕ) → joined (fs ++ (f ∷ [])) ≡ joined fs ++ f
 unfolding joined
-joined-more [] f = append-nil f
-joined-more (g ∷ fs) f = ap (λ (t : List ℕ). g ++ t) (joined-more fs f) ∙ sym (append-assoc g (joined fs) f)
+joined-more fs f = joined-append fs (f ∷ []) ∙ ap (λ (t : List ℕ). joined fs ++ t) (append-nil f)
 
 lengths-more : (fs : List (List ℕ)) (f : List ℕ) → map length (fs ++ (f ∷ [])) ≡ map length fs ++ (length f ∷ [])
-lengths-more [] f = refl
-lengths-more (g ∷ fs) f = ap (λ (t : List ℕ). length g ∷ t) (lengths-more fs f)
+lengths-more fs f = map-append length fs (f ∷ [])
+
+-- ---- one loop's answer
+
+pub made-nodes : {h cornerMargin : Float} {r : Ring} {before at p k : ℕ} {entry exit : List Float} {answer : Outcome (List Float)} {made : Made} → made ≡ Nodes p k
+    → MadeIs h cornerMargin r before at entry exit answer made → (answer ≡ gives (placed h cornerMargin r (r .size))) × Written h cornerMargin r before at p k entry exit
+made-nodes e w = rw e at w
 
 -- ---- the slice of the coordinates that are left
 
@@ -59,34 +50,34 @@ rest-whole l n = take-all (length l - n) (drop n l) (le-of-eq (length-drop n l))
 
 -- ---- one loop of those to come
 
-module _ (h : Float) (o : Options) (before : ℕ) (ccw : Bool) (s : State) (r : Ring) (rs : List Ring) where
-  pub from-refused : (number : ℕ) → sampleLoop h o before ccw r ≡ refused number → sampleFrom h o before ccw s (r ∷ rs) ≡ refused number
+module _ (h cornerMargin : Float) (before : ℕ) (ccw : Bool) (s : State) (r : Ring) (rs : List Ring) where
+  pub from-refused : (number : ℕ) → sampleLoop h cornerMargin before ccw r ≡ refused number → sampleFrom h cornerMargin before ccw s (r ∷ rs) ≡ refused number
   unfolding sampleFrom
   from-refused number e =
       subst
       (λ (x : Outcome (List Float)).
-      _≡_ {A = Outcome State} (elim x as (λ _. Outcome State) [ refused n ↦ refused n | gives out ↦ sampleFrom h o (before + planned h o (loopRing ccw r)) false (withLoop s out) rs ]) (refused number))
+      _≡_ {A = Outcome State} (elim x as (λ _. Outcome State) [ refused n ↦ refused n | gives out ↦ sampleFrom h cornerMargin (before + planned h cornerMargin (loopRing ccw r)) false (withLoop s out) rs ]) (refused number))
       (sym e) refl
 
-  pub from-given : (out : List Float) → sampleLoop h o before ccw r ≡ gives out
-      → sampleFrom h o before ccw s (r ∷ rs) ≡ sampleFrom h o (before + planned h o (loopRing ccw r)) false (withLoop s out) rs
+  pub from-given : (out : List Float) → sampleLoop h cornerMargin before ccw r ≡ gives out
+      → sampleFrom h cornerMargin before ccw s (r ∷ rs) ≡ sampleFrom h cornerMargin (before + planned h cornerMargin (loopRing ccw r)) false (withLoop s out) rs
   unfolding sampleFrom
   from-given given e =
       subst
-      (λ (x : Outcome (List Float)). elim x as (λ _. Outcome State) [ refused n ↦ refused n | gives out ↦ sampleFrom h o (before + planned h o (loopRing ccw r)) false (withLoop s out) rs ]
-      ≡ sampleFrom h o (before + planned h o (loopRing ccw r)) false (withLoop s given) rs)
+      (λ (x : Outcome (List Float)). elim x as (λ _. Outcome State) [ refused n ↦ refused n | gives out ↦ sampleFrom h cornerMargin (before + planned h cornerMargin (loopRing ccw r)) false (withLoop s out) rs ]
+      ≡ sampleFrom h cornerMargin (before + planned h cornerMargin (loopRing ccw r)) false (withLoop s given) rs)
       (sym e) refl
 
-module _ (coords : List Float) (loops : List ℕ) (h : Float) (o : Options) (p₀ : List Float) (n₀ l₀ : List ℕ) where
+module _ (coords : List Float) (loops : List ℕ) (h cornerMargin : Float) (p₀ : List Float) (n₀ l₀ : List ℕ) where
   pub record Progress (first before nodes k : ℕ) (p : List Float) (n l : List ℕ) : Type 0 where
     pub points : List Float
     pub fronts : List (List ℕ)
     pub turn : k ≤ length loops
-    pub to-come : sampleFrom h o before (eqb k 0) (ofLoops points fronts) (rings (drop first coords) (drop k loops)) ≡ sampled (job coords loops h o)
+    pub to-come : sampleFrom h cornerMargin before (eqb k 0) (ofLoops points fronts) (rings (drop first coords) (drop k loops)) ≡ allLoops coords loops h cornerMargin
     pub left : first + sumOf (drop k loops) * 2 ≡ length coords
     pub nodesIs : nodes * 2 ≡ length points
     pub fewer : nodes ≤ before
-    pub within : before ≤ 2048
+    pub within : before ≤ frontNodeLimit
     pub joinedIs : length (joined fronts) ≡ nodes
     pub frontsIs : length fronts ≡ k
     pub pointsAre : p ≡ sets p₀ 0 points
@@ -94,7 +85,7 @@ module _ (coords : List Float) (loops : List ℕ) (h : Float) (o : Options) (p�
     pub lengthsAre : l ≡ sets l₀ 0 (map length fronts)
 
   pub at-first : sumOf loops * 2 ≡ length coords → Progress 0 0 0 0 p₀ n₀ l₀
-  unfolding sampled joined
+  unfolding joined
   at-first e = record {
     points = [];
     fronts = [];
@@ -111,9 +102,9 @@ module _ (coords : List Float) (loops : List ℕ) (h : Float) (o : Options) (p�
     lengthsAre = refl;
   }
 
-module _ {coords : List Float} {loops : List ℕ} {h : Float} {o : Options} {p₀ : List Float} {n₀ l₀ : List ℕ} {first before nodes k : ℕ} {p : List Float} {n l : List ℕ}
-    (sofar : Progress coords loops h o p₀ n₀ l₀ first before nodes k p n l) where
-  pub at-last : length loops ≤ k → Sampled (job coords loops h o) nodes p₀ p n₀ n l₀ l
+module _ {coords : List Float} {loops : List ℕ} {h cornerMargin : Float} {p₀ : List Float} {n₀ l₀ : List ℕ} {first before nodes k : ℕ} {p : List Float} {n l : List ℕ}
+    (sofar : Progress coords loops h cornerMargin p₀ n₀ l₀ first before nodes k p n l) where
+  pub at-last : length loops ≤ k → Sampled coords loops h cornerMargin nodes p₀ p n₀ n l₀ l
   unfolding sampleFrom rings
   at-last done = record {
     points = sofar .points;
@@ -153,72 +144,77 @@ module _ {coords : List Float} {loops : List ℕ} {h : Float} {o : Options} {p�
     abbrev others : List Ring
     others = rings (drop (first + m * 2) coords) (drop (k + 1) loops)
 
-    module _ (number : ℕ) (out : List Float) (made : sampleLoop h o before (eqb k 0) given ≡ outcome number out) where
-      pub loop-refused : (number ≡ 0 → ⊥) → sampled (job coords loops h o) ≡ refused number
-      loop-refused g =
-          sym (sofar .to-come)
-          ∙ ap (λ (rs : List Ring). sampleFrom h o before (eqb k 0) (ofLoops (sofar .points) (sofar .fronts)) rs) next-rings
-          ∙ from-refused h o before (eqb k 0) (ofLoops (sofar .points) (sofar .fronts)) given others number (made ∙ rw (ne-eqb number 0 g))
+    pub loop-refused : (number : ℕ) → sampleLoop h cornerMargin before (eqb k 0) given ≡ refused number → allLoops coords loops h cornerMargin ≡ refused number
+    loop-refused number made =
+        sym (sofar .to-come)
+        ∙ ap (λ (rs : List Ring). sampleFrom h cornerMargin before (eqb k 0) (ofLoops (sofar .points) (sofar .fronts)) rs) next-rings
+        ∙ from-refused h cornerMargin before (eqb k 0) (ofLoops (sofar .points) (sofar .fronts)) given others number made
 
-      module _ (g : number ≡ 0) {before' placed' : ℕ} {p' : List Float} {n' l' : List ℕ} (w : Written h o (loopRing (eqb k 0) given) before nodes before' placed' p p')
-          (same : out ≡ placed h o (loopRing (eqb k 0) given) (loopRing (eqb k 0) given .size)) (hn : n' ≡ sets n nodes (numbered nodes placed')) (hl : l' ≡ set l k placed') where
-        abbrev front : List ℕ
-        front = numbered nodes placed'
+    abbrev ring : Ring
+    ring = loopRing (eqb k 0) given
 
-        abbrev now : State
-        now = ofLoops (sofar .points) (sofar .fronts)
+    abbrev out : List Float
+    out = placed h cornerMargin ring (ring .size)
 
-        on : sampleFrom h o (before + before') false (withLoop now out) others ≡ sampled (job coords loops h o)
-        on =
-            ap (λ (b : ℕ). sampleFrom h o (before + b) false (withLoop now out) others) (w .plannedIs)
-            ∙ sym (ap (λ (rs : List Ring). sampleFrom h o before (eqb k 0) now rs) next-rings
-            ∙ from-given h o before (eqb k 0) now given others out (made ∙ rw (eq-eqb number 0 g)))
-            ∙ sofar .to-come
+    module _ {before' placed' : ℕ} {p' : List Float} {n' l' : List ℕ} (made : sampleLoop h cornerMargin before (eqb k 0) given ≡ gives out) (w : Written h cornerMargin ring before nodes before' placed' p p')
+        (hn : n' ≡ sets n nodes (numbered nodes placed')) (hl : l' ≡ set l k placed') where
+      abbrev front : List ℕ
+      front = numbered nodes placed'
 
-        with-loop : withLoop now out ≡ ofLoops (sofar .points ++ out) (sofar .fronts ++ (front ∷ []))
-        unfolding withLoop
-        with-loop =
-            let a : length (sofar .points) / 2 ≡ nodes = half (length (sofar .points)) nodes (sofar .nodesIs) in
-            let b : length out / 2 ≡ placed' = half (length out) placed' (w .placedIs ∙ ap length (sym same)) in
-            rw (a, b)
-          where
-            half : (x y : ℕ) → y * 2 ≡ x → x / 2 ≡ y
-            half x y e = omega arith
+      abbrev now : State
+      now = ofLoops (sofar .points) (sofar .fronts)
 
-        pub one-more : Progress coords loops h o p₀ n₀ l₀ (first + m * 2) (before + before') (nodes + placed') (k + 1) p' n' l'
-        one-more = record {
-          points = sofar .points ++ out;
-          fronts = sofar .fronts ++ (front ∷ []);
-          turn = more-turns k (length loops) more;
-          to-come = rw (ne-eqb (k + 1) 0 (not-first k), ← with-loop) on;
-          left = room-left;
-          nodesIs = rw (length-append, same, ← (w .placedIs)) (both nodes placed' (length (sofar .points)) (sofar .nodesIs));
-          fewer = sum-le nodes placed' before before' (sofar .fewer) (w .fewer);
-          within = w .within;
-          joinedIs = ap length (joined-more (sofar .fronts) front) ∙ length-append (joined (sofar .fronts)) front ∙ rw (sofar .joinedIs, length-numbered nodes placed');
-          frontsIs = length-append (sofar .fronts) (front ∷ []) ∙ ap (λ (x : ℕ). x + 1) (sofar .frontsIs);
-          pointsAre = w .points ∙ rw (← same, sofar .pointsAre, sofar .nodesIs ∙ sym (zero-add (length (sofar .points)))) (sym (sets-append (sofar .points) out p₀ 0));
-          nodesAre =
-              hn
-              ∙ ap (λ (x : List ℕ). sets x nodes front) (sofar .nodesAre)
-              ∙ ap (λ (i : ℕ). sets (sets n₀ 0 (joined (sofar .fronts))) i front) (sym (zero-add (length (joined (sofar .fronts))) ∙ sofar .joinedIs))
-              ∙ sym (sets-append (joined (sofar .fronts)) front n₀ 0)
-              ∙ ap (λ (x : List ℕ). sets n₀ 0 x) (sym (joined-more (sofar .fronts) front));
-          lengthsAre =
-              hl
-              ∙ store-behind l₀ (map length (sofar .fronts)) l 0 k placed' (sofar .lengthsAre) (sym (zero-add (length (map length (sofar .fronts))) ∙ length-map (sofar .fronts) length ∙ sofar .frontsIs))
-              ∙ ap (λ (x : ℕ). sets l₀ 0 (map length (sofar .fronts) ++ (x ∷ []))) (sym (length-numbered nodes placed'))
-              ∙ ap (λ (x : List ℕ). sets l₀ 0 x) (sym (lengths-more (sofar .fronts) front));
-        }
-          where
-            more-turns : (k n : ℕ) → k < n → k + 1 ≤ n
-            more-turns k n h = omega arith
+      on : sampleFrom h cornerMargin (before + before') false (withLoop now out) others ≡ allLoops coords loops h cornerMargin
+      on =
+          ap (λ (b : ℕ). sampleFrom h cornerMargin (before + b) false (withLoop now out) others) (w .plannedIs)
+          ∙ sym (ap (λ (rs : List Ring). sampleFrom h cornerMargin before (eqb k 0) now rs) next-rings
+          ∙ from-given h cornerMargin before (eqb k 0) now given others out made)
+          ∙ sofar .to-come
 
-            not-first : (k : ℕ) → k + 1 ≡ 0 → ⊥
-            not-first k e = omega arith
+      with-loop : withLoop now out ≡ ofLoops (sofar .points ++ out) (sofar .fronts ++ (front ∷ []))
+      unfolding withLoop
+      with-loop =
+          let a : length (sofar .points) / 2 ≡ nodes = half (length (sofar .points)) nodes (sofar .nodesIs) in
+          let b : length out / 2 ≡ placed' = half (length out) placed' (w .placedIs) in
+          rw (a, b)
+        where
+          half : (x y : ℕ) → y * 2 ≡ x → x / 2 ≡ y
+          half x y e = omega arith
 
-            both : (a b c : ℕ) → a * 2 ≡ c → (a + b) * 2 ≡ c + b * 2
-            both a b c e = omega arith
+      pub one-more : Progress coords loops h cornerMargin p₀ n₀ l₀ (first + m * 2) (before + before') (nodes + placed') (k + 1) p' n' l'
+      one-more = record {
+        points = sofar .points ++ out;
+        fronts = sofar .fronts ++ (front ∷ []);
+        turn = more-turns k (length loops) more;
+        to-come = rw (ne-eqb (k + 1) 0 (not-first k), ← with-loop) on;
+        left = room-left;
+        nodesIs = rw (length-append, ← (w .placedIs)) (both nodes placed' (length (sofar .points)) (sofar .nodesIs));
+        fewer = sum-le nodes placed' before before' (sofar .fewer) (w .fewer);
+        within = w .within;
+        joinedIs = ap length (joined-more (sofar .fronts) front) ∙ length-append (joined (sofar .fronts)) front ∙ rw (sofar .joinedIs, length-numbered nodes placed');
+        frontsIs = length-append (sofar .fronts) (front ∷ []) ∙ ap (λ (x : ℕ). x + 1) (sofar .frontsIs);
+        pointsAre = w .points ∙ rw (sofar .pointsAre, sofar .nodesIs ∙ sym (zero-add (length (sofar .points)))) (sym (sets-append (sofar .points) out p₀ 0));
+        nodesAre =
+            hn
+            ∙ ap (λ (x : List ℕ). sets x nodes front) (sofar .nodesAre)
+            ∙ ap (λ (i : ℕ). sets (sets n₀ 0 (joined (sofar .fronts))) i front) (sym (zero-add (length (joined (sofar .fronts))) ∙ sofar .joinedIs))
+            ∙ sym (sets-append (joined (sofar .fronts)) front n₀ 0)
+            ∙ ap (λ (x : List ℕ). sets n₀ 0 x) (sym (joined-more (sofar .fronts) front));
+        lengthsAre =
+            hl
+            ∙ store-behind l₀ (map length (sofar .fronts)) l 0 k placed' (sofar .lengthsAre) (sym (zero-add (length (map length (sofar .fronts))) ∙ length-map (sofar .fronts) length ∙ sofar .frontsIs))
+            ∙ ap (λ (x : ℕ). sets l₀ 0 (map length (sofar .fronts) ++ (x ∷ []))) (sym (length-numbered nodes placed'))
+            ∙ ap (λ (x : List ℕ). sets l₀ 0 x) (sym (lengths-more (sofar .fronts) front));
+      }
+        where
+          more-turns : (k n : ℕ) → k < n → k + 1 ≤ n
+          more-turns k n h = omega arith
 
-            sum-le : (a b c d : ℕ) → a ≤ c → b ≤ d → a + b ≤ c + d
-            sum-le a b c d e f = omega arith
+          not-first : (k : ℕ) → k + 1 ≡ 0 → ⊥
+          not-first k e = omega arith
+
+          both : (a b c : ℕ) → a * 2 ≡ c → (a + b) * 2 ≡ c + b * 2
+          both a b c e = omega arith
+
+          sum-le : (a b c d : ℕ) → a ≤ c → b ≤ d → a + b ≤ c + d
+          sum-le a b c d e f = omega arith

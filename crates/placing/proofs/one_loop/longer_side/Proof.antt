@@ -1,7 +1,7 @@
--- `sampling::one_loop::longer_side` meets its contract.
+-- `placing::one_loop::longer_side` meets its contract.
 use borrow.Author.Tests.{eq-eqb, ne-eqb}
-use Rattle.sampling.proofs.one_loop.longer_side.Statement.{statement}
-use Rattle.sampling.proofs.one_loop.longer_side.Tie as tie
+use Rattle.placing.proofs.one_loop.longer_side.Statement.{statement}
+use Rattle.placing.proofs.one_loop.longer_side.Tie as tie
 
 returns : tie.Need-returns
 returns c = rw (eq-eqb _ _ (c .if1 .taken))

@@ -1,16 +1,32 @@
--- `sampling::one_loop::plan_and_place` meets its contract: its tests are the definition's, in its order, and what is placed is what the definition places.
-use mathlib.Core.Path.{_≡_, _∙_, sym}
-use Prim.Native.Nat.{_+_, _*_, _%_, _≤_}
+-- `placing::one_loop::plan_and_place` meets its contract: its tests are the definition's, in its order, and what is placed is what the definition places.
+use mathlib.Core.Path.{_≡_}
+use mathlib.Core.List.{List}
+use Prim.Native.Nat.{ℕ, _+_, _*_, _%_, _≤_}
 use native.Mathlib.Omega.{arith}
-use lib.Dec.{lit<}
+use lib.Ieee.{Float}
 use lib.ListN.{length}
-use Rattle.geometry.specs.Rings.{ringOf}
-use Rattle.sampling.specs.Loop as loops
-use Rattle.sampling.specs.Backwards.{turnedIf}
-use Rattle.sampling.proofs.Numbers.{refusal, ten, eight, nine, no-number, over, within-is, parts-are}
+use Rattle.geometry.specs.Rings.{Ring, ringOf}
+use Rattle.state.specs.Limits.{frontNodeLimit}
+use Rattle.planning.specs.Plan as plans
+use Rattle.planning.specs.Backwards.{turnedIf}
+use Rattle.placing.specs.Placed as laid
+use Rattle.placing.proofs.Numbers.{ten, eight, nine, no-number, over, within-is, parts-are}
 use borrow.Author.Needs.{needs}
-use Rattle.sampling.proofs.one_loop.plan_and_place.Statement.{statement}
-use Rattle.sampling.proofs.one_loop.plan_and_place.Tie as tie
+use Rattle.placing.proofs.one_loop.plan_and_place.Statement.{statement}
+use Rattle.placing.proofs.one_loop.plan_and_place.Tie as tie
+
+abbrev ring-of : tie.Start → Ring
+ring-of start = turnedIf (start .args .back) (ringOf (start .args .pts .now) (start .args .n))
+
+-- the nodes planned, with those of the loops before, and the nodes placed
+abbrev planned-at : tie.Start → ℕ
+planned-at start = plans.planned (start .args .h) (start .args .corner-margin) (ring-of start)
+
+abbrev sum-at : tie.Start → ℕ
+sum-at start = start .args .before + planned-at start
+
+abbrev out-at : tie.Start → List Float
+out-at start = laid.placed (start .args .h) (start .args .corner-margin) (ring-of start) (start .args .n)
 
 plan-sides-requires : tie.Need-plan-sides-requires
 plan-sides-requires c κs = search needs
@@ -20,9 +36,6 @@ add-planned c = search needs
 
 add-if1 : tie.Need-add-if1
 add-if1 c = search needs
-
-refused-requires : tie.Need-refused-requires
-refused-requires c κs = search needs
 
 same-length : tie.Need-same-length
 same-length c = search needs
@@ -34,10 +47,25 @@ returns : tie.Need-returns
 returns c =
     let at-plan-sides : tie.After-plan-sides = search in
     let start : tie.Start = search in
-    let r = turnedIf (start .args .back) (ringOf (start .args .pts .now) (start .args .n)) in
-    let x = start .args .before + loops.planned (start .args .h) (start .args .options) r in
-    let l = length (loops.placed (start .args .h) (start .args .options) r (start .args .n)) in
-    (c .refused .ensures ∙ ten x l (over (start .args .h) (start .args .options) r _ _ (at-plan-sides .plan-sides .ensures .0) (c .before .if1 .taken)), refusal _ _ (c .refused .ensures) (lit< tt))
+    ten (sum-at start) (length (out-at start)) (out-at start) (over (start .args .h) (start .args .corner-margin) (ring-of start) _ _ (at-plan-sides .plan-sides .ensures .0) (c .if1 .taken))
+
+-- where there is room, the plan is whole
+abbrev start-of : tie.Else1 → tie.Start
+start-of c = search
+
+abbrev plan-of : tie.Else1 → tie.After-plan-sides
+plan-of c = search
+
+planned-found : (c : tie.Else1)
+    → let t = plan-of c .plan-sides .result .total in
+    let start = start-of c in
+    (t ≡ plans.total (start .args .h) (start .args .corner-margin) (ring-of start)) × (t + t % 2 ≡ planned-at start)
+planned-found c =
+    let start = start-of c in
+    within-is (start .args .h) (start .args .corner-margin) (ring-of start) (start .args .before) _ (plan-of c .plan-sides .ensures .0) (c .if1 .left)
+
+few-planned : (c : tie.Else1) → sum-at (start-of c) ≤ frontNodeLimit
+few-planned c = omega (arith, planned-found c .1, c .if1 .left)
 
 longer-side-requires : tie.Need-longer-side-requires
 longer-side-requires c κs = search needs
@@ -45,28 +73,23 @@ longer-side-requires c κs = search needs
 place-requires : tie.Need-place-requires
 place-requires c κs =
     let at-longer-side : tie.After-longer-side = search in
-    let at-if1 = at-longer-side .before in
+    let at-if1 : tie.Else1 = search in
     let at-plan-sides : tie.After-plan-sides = search in
     let start : tie.Start = search in
     let plan-sides = at-plan-sides .plan-sides in
-    let if1 = at-if1 .if1 in
-    let r = turnedIf (start .args .back) (ringOf (start .args .pts .now) (start .args .n)) in
-    let w = within-is (start .args .h) (start .args .options) r (start .args .before) _ (plan-sides .ensures .0) (if1 .left) in (
+    let w = planned-found at-if1 in (
       (start .pre .0 .0, omega (arith, start .pre .0 .3, plan-sides .kept .1 .1 .1 .1 .1 .0), omega (arith, start .pre .0 .4, plan-sides .kept .1 .1 .1 .1 .1 .1 .0)),
       (
         plan-sides .ensures .2,
         (
           plan-sides .ensures .3,
           (
-            parts-are (start .args .h) (start .args .options) r _ _ _ (w .0) (plan-sides .ensures .1) (at-longer-side .longer-side .ensures),
-            (omega (arith, w .1, if1 .left, start .pre .1 .0), omega (arith, start .pre .1 .2)),
+            parts-are (start .args .h) (start .args .corner-margin) (ring-of start) _ _ _ (w .0) (plan-sides .ensures .1) (at-longer-side .longer-side .ensures),
+            (omega (arith, few-planned at-if1, start .pre .1 .0), omega (arith, start .pre .1 .2)),
           ),
         ),
       ),
     )
-
-refused-requires-2 : tie.Need-refused-requires-2
-refused-requires-2 c κs = search needs
 
 same-length-3 : tie.Need-same-length-3
 same-length-3 c = search needs
@@ -80,18 +103,9 @@ same-length-5 c = search needs
 returns-2 : tie.Need-returns-2
 returns-2 c =
     let at-place : tie.After-place = search in
-    let at-if1 = at-place .before .before .before .before .before in
-    let at-plan-sides : tie.After-plan-sides = search in
-    let start : tie.Start = search in
-    let if1 = at-if1 .if1 in
-    let place = at-place .place in
-    let r = turnedIf (start .args .back) (ringOf (start .args .pts .now) (start .args .n)) in
-    let w = within-is (start .args .h) (start .args .options) r (start .args .before) _ (at-plan-sides .plan-sides .ensures .0) (if1 .left) in
-    let few : start .args .before + loops.planned (start .args .h) (start .args .options) r ≤ 2048 = omega (arith, w .1, if1 .left) in
-    (c .refused2 .ensures ∙ eight _ _ (place .result) few (place .ensures .0) (c .before .if2 .taken), refusal _ _ (c .refused2 .ensures) (lit< tt))
-
-refused-requires-3 : tie.Need-refused-requires-3
-refused-requires-3 c κs = search needs
+    let at-if1 : tie.Else1 = search in
+    let start = start-of at-if1 in
+    eight (sum-at start) (length (out-at start)) (out-at start) (at-place .place .result) (few-planned at-if1) (at-place .place .ensures .0) (c .if2 .taken)
 
 same-length-6 : tie.Need-same-length-6
 same-length-6 c = search needs
@@ -105,15 +119,9 @@ same-length-8 c = search needs
 returns-3 : tie.Need-returns-3
 returns-3 c =
     let at-place : tie.After-place = search in
-    let at-if1 = at-place .before .before .before .before .before in
-    let at-plan-sides : tie.After-plan-sides = search in
-    let start : tie.Start = search in
-    let if1 = at-if1 .if1 in
-    let place = at-place .place in
-    let r = turnedIf (start .args .back) (ringOf (start .args .pts .now) (start .args .n)) in
-    let w = within-is (start .args .h) (start .args .options) r (start .args .before) _ (at-plan-sides .plan-sides .ensures .0) (if1 .left) in
-    let few : start .args .before + loops.planned (start .args .h) (start .args .options) r ≤ 2048 = omega (arith, w .1, if1 .left) in
-    (c .refused3 .ensures ∙ nine _ _ (place .result) few (place .ensures .0) (c .before .before .if2 .left) (c .before .if3 .taken), refusal _ _ (c .refused3 .ensures) (lit< tt))
+    let at-if1 : tie.Else1 = search in
+    let start = start-of at-if1 in
+    nine (sum-at start) (length (out-at start)) (out-at start) (at-place .place .result) (few-planned at-if1) (at-place .place .ensures .0) (c .before .if2 .left) (c .if3 .taken)
 
 same-length-9 : tie.Need-same-length-9
 same-length-9 c = search needs
@@ -127,19 +135,15 @@ same-length-11 c = search needs
 returns-4 : tie.Need-returns-4
 returns-4 c =
     let at-place : tie.After-place = search in
-    let at-if1 = at-place .before .before .before .before .before in
-    let at-plan-sides : tie.After-plan-sides = search in
-    let start : tie.Start = search in
-    let if1 = at-if1 .if1 in
+    let at-if1 : tie.Else1 = search in
+    let start = start-of at-if1 in
     let place = at-place .place in
-    let r = turnedIf (start .args .back) (ringOf (start .args .pts .now) (start .args .n)) in
-    let w = within-is (start .args .h) (start .args .options) r (start .args .before) _ (at-plan-sides .plan-sides .ensures .0) (if1 .left) in
-    let few : start .args .before + loops.planned (start .args .h) (start .args .options) r ≤ 2048 = omega (arith, w .1, if1 .left) in (
-      no-number _ _ (place .result) few (place .ensures .0) (c .before .if2 .left) (c .if3 .left),
-      λ q. record {
+    let w = planned-found at-if1 in (
+      no-number (sum-at start) (length (out-at start)) (out-at start) (place .result) (few-planned at-if1) (place .ensures .0) (c .before .if2 .left) (c .if3 .left),
+      record {
         plannedIs = w .1;
         placedIs = place .ensures .0;
-        within = if1 .left;
+        within = at-if1 .if1 .left;
         fewer = omega (arith, w .1, place .ensures .1);
         points = place .ensures .2;
       },
@@ -152,18 +156,15 @@ plan-and-place-spec =
     plan-sides-requires
     add-planned
     add-if1
-    refused-requires
     same-length
     same-length-2
     returns
     longer-side-requires
     place-requires
-    refused-requires-2
     same-length-3
     same-length-4
     same-length-5
     returns-2
-    refused-requires-3
     same-length-6
     same-length-7
     same-length-8

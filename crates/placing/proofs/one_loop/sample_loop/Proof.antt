@@ -1,14 +1,14 @@
--- `sampling::one_loop::sample_loop` meets its contract: of the points given or of those kept, the one sampling of kept points.
+-- `placing::one_loop::sample_loop` meets its contract: of the points given or of those kept, the one sampling of kept points.
 use mathlib.Core.Path.{sym}
 use Prim.Native.Nat.{_*_, _≤_}
 use native.Mathlib.Omega.{arith}
 use lib.ListN.{length}
 use lib.Seq.{length-take-le}
 use Rattle.geometry.specs.Rings.{ringOf}
-use Rattle.sampling.proofs.Stores.{front-part}
+use Rattle.state.proofs.Stores.{front-part}
 use borrow.Author.Needs.{needs}
-use Rattle.sampling.proofs.one_loop.sample_loop.Statement.{statement}
-use Rattle.sampling.proofs.one_loop.sample_loop.Tie as tie
+use Rattle.placing.proofs.one_loop.sample_loop.Statement.{statement}
+use Rattle.placing.proofs.one_loop.sample_loop.Tie as tie
 
 all-apart-requires : tie.Need-all-apart-requires
 all-apart-requires c κs = search needs
@@ -43,8 +43,8 @@ returns c =
     let entry : tie.Start = search in
     at-sample-kept .sample-kept .ensures (ringOf (entry .args .coords .now) (entry .args .n)) (at-all-apart .all-apart .ensures (at-if1 .if1 .taken))
 
-keep-requires : tie.Need-keep-requires
-keep-requires c κs = search needs
+keep-points-requires : tie.Need-keep-points-requires
+keep-points-requires c κs = search needs
 
 mul-end-2 : tie.Need-mul-end-2
 mul-end-2 c = search needs
@@ -54,15 +54,15 @@ slice-reshare-prefix-sample-kept c = search needs
 
 slice-aggregate-sample-kept-2 : tie.Need-slice-aggregate-sample-kept-2
 slice-aggregate-sample-kept-2 c =
-    let at-keep : tie.After-keep = search in
+    let at-keep-points : tie.After-keep-points = search in
     let entry : tie.Start = search in
-    sym (length-take-le _ _ (omega (arith, at-keep .keep .ensures .0, at-keep .keep .kept .1 .1 .0, entry .pre .0 .2)))
+    sym (length-take-le _ _ (omega (arith, at-keep-points .keep-points .ensures .0, at-keep-points .keep-points .kept .1 .1 .0, entry .pre .0 .2)))
 
 sample-kept-requires-2 : tie.Need-sample-kept-requires-2
 sample-kept-requires-2 c κs =
-    let at-keep : tie.After-keep = search in
+    let at-keep-points : tie.After-keep-points = search in
     let start : tie.Start = search in
-    let keep = at-keep .keep in (
+    let keep = at-keep-points .keep-points in (
       (
         sym (length-take-le _ _ (omega (arith, keep .ensures .0, keep .kept .1 .1 .0, start .pre .0 .2))),
         omega (arith, keep .ensures .0, start .pre .0 .1),
@@ -87,9 +87,9 @@ same-length-7 c = search needs
 returns-2 : tie.Need-returns-2
 returns-2 c =
     let at-sample-kept2 : tie.After-sample-kept2 = search in
-    let at-keep : tie.After-keep = search in
+    let at-keep-points : tie.After-keep-points = search in
     let start : tie.Start = search in
-    let keep = at-keep .keep in
+    let keep = at-keep-points .keep-points in
     let fits : keep .result * 2 ≤ length (start .args .buffer .now) = omega (arith, keep .ensures .0, start .pre .0 .2) in
     at-sample-kept2 .sample-kept2 .ensures (ringOf (start .args .coords .now) (start .args .n)) (front-part (start .args .buffer .now) _ _ _ fits (keep .ensures .1) (keep .ensures .2))
 
@@ -105,7 +105,7 @@ sample-loop-spec =
     same-length-2
     same-length-3
     returns
-    keep-requires
+    keep-points-requires
     mul-end-2
     slice-reshare-prefix-sample-kept
     slice-aggregate-sample-kept-2

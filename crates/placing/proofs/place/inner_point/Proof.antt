@@ -1,8 +1,8 @@
--- `sampling::place::inner_point` meets its contract.
-use Rattle.sampling.proofs.Literals.{half-is}
+-- `placing::place::inner_point` meets its contract.
+use Rattle.placing.proofs.Literals.{half-is}
 use borrow.Author.Needs.{needs}
-use Rattle.sampling.proofs.place.inner_point.Statement.{statement}
-use Rattle.sampling.proofs.place.inner_point.Tie as tie
+use Rattle.placing.proofs.place.inner_point.Statement.{statement}
+use Rattle.placing.proofs.place.inner_point.Tie as tie
 
 whole-requires : tie.Need-whole-requires
 whole-requires c κs = search needs

@@ -1,11 +1,11 @@
--- `sampling::place::parts_of` meets its contract.
+-- `placing::place::parts_of` meets its contract.
 use native.Mathlib.Omega.{arith}
 use native.Mathlib.Nat.{add-zero}
 use mathlib.Core.Path.{refl, sym}
 use borrow.Author.Tests.{eq-eqb, ne-eqb}
 use borrow.Author.Needs.{needs}
-use Rattle.sampling.proofs.place.parts_of.Statement.{statement}
-use Rattle.sampling.proofs.place.parts_of.Tie as tie
+use Rattle.placing.proofs.place.parts_of.Statement.{statement}
+use Rattle.placing.proofs.place.parts_of.Tie as tie
 
 add-result : tie.Need-add-result
 add-result c = search needs

@@ -1,4 +1,4 @@
--- `sampling::place::place` meets its contract. The invariant: the nodes of the first i sides are written.
+-- `placing::place::place` meets its contract. The invariant: the nodes of the first i sides are written.
 use mathlib.Core.Path.{_≡_, refl, _∙_}
 use Prim.Native.Nat.{_≤_, _<_, _+_, _-_, _*_}
 use native.Mathlib.Omega.{arith}
@@ -6,26 +6,27 @@ use lib.ListN.{length}
 use lib.Seq.{sets}
 use borrow.Author.Needs.{needs, scaled-fits}
 use Rattle.geometry.specs.Rings.{ringOf}
-use Rattle.sampling.specs.Loop as loops
-use Rattle.sampling.specs.Backwards.{turnedIf}
-use Rattle.sampling.proofs.Placing.{placed-step, count-step, placed-few, room}
-use Rattle.sampling.proofs.place.place.Statement.{statement}
-use Rattle.sampling.proofs.place.place.Tie as tie
+use Rattle.planning.specs.Plan as plans
+use Rattle.placing.specs.Placed as laid
+use Rattle.planning.specs.Backwards.{turnedIf}
+use Rattle.placing.proofs.Placing.{placed-step, count-step, placed-few, room}
+use Rattle.placing.proofs.place.place.Statement.{statement}
+use Rattle.placing.proofs.place.place.Tie as tie
 
 abbrev Inv-loop : tie.InvT-loop
-Inv-loop pts n back h options lengths spans longer points₀ at placed₀ i₀ points placed i =
+Inv-loop pts n back h cornerMargin lengths spans longer points₀ at placed₀ i₀ points placed i =
     let r = turnedIf back (ringOf pts n) in
     (i ≤ n)
-    × (placed * 2 ≡ length (loops.placed h options r i))
-    × (points ≡ sets points₀ (at * 2) (loops.placed h options r i))
+    × (placed * 2 ≡ length (laid.placed h cornerMargin r i))
+    × (points ≡ sets points₀ (at * 2) (laid.placed h cornerMargin r i))
     × (length points ≡ length points₀)
-    × (placed ≤ loops.planned h options r)
+    × (placed ≤ plans.planned h cornerMargin r)
 
 abbrev μ-loop : tie.MeasureT-loop
-μ-loop pts n back h options lengths spans longer points₀ at placed₀ i₀ points placed i = n - i
+μ-loop pts n back h cornerMargin lengths spans longer points₀ at placed₀ i₀ points placed i = n - i
 
 loop-holds : tie.Need-loop-holds Inv-loop μ-loop
-unfolding loops.placed
+unfolding laid.placed
 loop-holds c = (omega arith, refl, refl, refl, omega arith)
 
 mul-length : tie.Need-mul-length Inv-loop μ-loop
@@ -58,7 +59,7 @@ place-side-requires c κs =
     let loop-test = at-loop-test .loop-test in
     let r = turnedIf (start .args .back) (ringOf (start .args .pts .now) (start .args .n)) in
     let l = at-loop .loop in
-    let fits = room (start .args .h) (start .args .options) r (l .i) (l .placed) (loop-test .taken) (l .inv .1) in
+    let fits = room (start .args .h) (start .args .corner-margin) r (l .i) (l .placed) (loop-test .taken) (l .inv .1) in
     ((start .pre .0 .0, loop-test .taken, start .pre .1 .0 (l .i) (loop-test .taken), start .pre .1 .1 .0 (l .i) (loop-test .taken)), (start .pre .1 .1 .1 .0 (l .i) (loop-test .taken), (omega (arith, fits, start .pre .1 .1 .1 .1 .0), omega (arith, start .pre .1 .1 .1 .1 .1, l .inv .3))))
 
 add-placed : tie.Need-add-placed Inv-loop μ-loop
@@ -68,7 +69,7 @@ add-placed c =
     let start : tie.Start Inv-loop μ-loop = search in
     let r = turnedIf (start .args .back) (ringOf (start .args .pts .now) (start .args .n)) in
     let l = at-loop .loop in
-    omega (arith, room (start .args .h) (start .args .options) r (l .i) (l .placed) (at-loop-test .loop-test .taken) (l .inv .1), placed-few (start .args .h) (start .args .options) r (l .i), c .before .before .place-side .ensures .0, start .pre .1 .1 .1 .1 .0)
+    omega (arith, room (start .args .h) (start .args .corner-margin) r (l .i) (l .placed) (at-loop-test .loop-test .taken) (l .inv .1), placed-few (start .args .h) (start .args .corner-margin) r (l .i), c .before .before .place-side .ensures .0, start .pre .1 .1 .1 .1 .0)
 
 add-i : tie.Need-add-i Inv-loop μ-loop
 add-i c = omega arith
@@ -85,10 +86,10 @@ loop-again c =
     let r = turnedIf (start .args .back) (ringOf (start .args .pts .now) (start .args .n)) in
     let l = at-loop .loop in (
       omega arith,
-      count-step (start .args .h) (start .args .options) r (l .i) _ _ (l .inv .1) (place-side .ensures .0),
-      placed-step (start .args .h) (start .args .options) r (l .i) (start .args .at) (l .placed) _ _ _ (l .inv .1) (l .inv .2) (place-side .ensures .1),
+      count-step (start .args .h) (start .args .corner-margin) r (l .i) _ _ (l .inv .1) (place-side .ensures .0),
+      placed-step (start .args .h) (start .args .corner-margin) r (l .i) (start .args .at) (l .placed) _ _ _ (l .inv .1) (l .inv .2) (place-side .ensures .1),
       place-side .kept .1 .1 .1 .1 .1 .1 .1 .1 .1 .0 ∙ l .inv .3,
-      omega (arith, room (start .args .h) (start .args .options) r (l .i) (l .placed) (at-loop-test .loop-test .taken) (l .inv .1), placed-few (start .args .h) (start .args .options) r (l .i), place-side .ensures .0),
+      omega (arith, room (start .args .h) (start .args .corner-margin) r (l .i) (l .placed) (at-loop-test .loop-test .taken) (l .inv .1), placed-few (start .args .h) (start .args .corner-margin) r (l .i), place-side .ensures .0),
     )
 
 same-length : tie.Need-same-length Inv-loop μ-loop

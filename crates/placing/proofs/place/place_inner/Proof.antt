@@ -1,14 +1,14 @@
--- `sampling::place::place_inner` meets its contract. The invariant: the first j inner points are written.
+-- `placing::place::place_inner` meets its contract. The invariant: the first j inner points are written.
 use mathlib.Core.Path.{_≡_, refl, _∙_}
 use Prim.Native.Nat.{_≤_, _-_, _*_}
 use native.Mathlib.Omega.{arith}
 use lib.ListN as lists
 use lib.Seq.{sets}
 use borrow.Author.Needs.{needs}
-use Rattle.sampling.specs.Placing.{betweens}
-use Rattle.sampling.proofs.Placing.{between-step}
-use Rattle.sampling.proofs.place.place_inner.Statement.{statement}
-use Rattle.sampling.proofs.place.place_inner.Tie as tie
+use Rattle.placing.specs.Placing.{betweens}
+use Rattle.placing.proofs.Placing.{between-step}
+use Rattle.placing.proofs.place.place_inner.Statement.{statement}
+use Rattle.placing.proofs.place.place_inner.Tie as tie
 
 abbrev Inv-loop : tie.InvT-loop
 Inv-loop a b length margin span k points₀ at j₀ points j = (j ≤ k) × (points ≡ sets points₀ (at * 2) (betweens a b length margin span k j)) × (lists.length points ≡ lists.length points₀)

@@ -1,4 +1,4 @@
--- `sampling::keep::all_apart` meets its contract. The invariant: the coordinates begin with the points that the definition keeps of the first k, which are all.
+-- `planning::keep::all_apart` meets its contract. The invariant: the coordinates begin with the points that the definition keeps of the first k, which are all.
 use mathlib.Core.Path.{_≡_, refl, sym}
 use mathlib.Core.Bool.{true≢false}
 use Prim.Native.Nat.{_*_, _-_, _≤_}
@@ -6,20 +6,20 @@ use native.Mathlib.Omega.{arith}
 use lib.ListN.{length}
 use lib.Seq.{sets}
 use Rattle.geometry.specs.Rings.{ringOf}
-use Rattle.sampling.specs.Loop as loops
-use Rattle.sampling.proofs.Stores.{front-part}
-use Rattle.sampling.proofs.Keeping.{apart-step}
-use Rattle.sampling.proofs.keep.all_apart.Statement.{statement}
-use Rattle.sampling.proofs.keep.all_apart.Tie as tie
+use Rattle.planning.specs.Ring as rings
+use Rattle.state.proofs.Stores.{front-part}
+use Rattle.planning.proofs.Keeping.{apart-step}
+use Rattle.planning.proofs.keep.all_apart.Statement.{statement}
+use Rattle.planning.proofs.keep.all_apart.Tie as tie
 
 abbrev Inv-loop : tie.InvT-loop
-Inv-loop coords n k₀ k = (k ≤ n) × (k * 2 ≡ length (loops.kept (ringOf coords n) k)) × (coords ≡ sets coords 0 (loops.kept (ringOf coords n) k))
+Inv-loop coords n k₀ k = (k ≤ n) × (k * 2 ≡ length (rings.kept (ringOf coords n) k)) × (coords ≡ sets coords 0 (rings.kept (ringOf coords n) k))
 
 abbrev μ-loop : tie.MeasureT-loop
 μ-loop coords n k₀ k = n - k
 
 loop-holds : tie.Need-loop-holds Inv-loop μ-loop
-unfolding loops.kept
+unfolding rings.kept
 loop-holds c = (omega arith, refl, refl)
 
 point-at-requires : tie.Need-point-at-requires Inv-loop μ-loop

@@ -1,9 +1,9 @@
--- `sampling::keep::close` meets its contract.
+-- `planning::keep::close` meets its contract.
 use mathlib.Core.Path.{_∙_, sym}
-use Rattle.sampling.specs.Loop.{close}
+use Rattle.planning.specs.Ring.{close}
 use borrow.Author.Needs.{needs}
-use Rattle.sampling.proofs.keep.close.Statement.{statement}
-use Rattle.sampling.proofs.keep.close.Tie as tie
+use Rattle.planning.proofs.keep.close.Statement.{statement}
+use Rattle.planning.proofs.keep.close.Tie as tie
 
 tiny-requires : tie.Need-tiny-requires
 tiny-requires c κs = search needs

@@ -1,9 +1,9 @@
--- `sampling::keep::close_to_last` meets its contract.
+-- `planning::keep::close_to_last` meets its contract.
 use native.Mathlib.Omega.{arith}
 use borrow.Author.Tests.{lt-ltb, le-ltb}
 use borrow.Author.Needs.{needs}
-use Rattle.sampling.proofs.keep.close_to_last.Statement.{statement}
-use Rattle.sampling.proofs.keep.close_to_last.Tie as tie
+use Rattle.planning.proofs.keep.close_to_last.Statement.{statement}
+use Rattle.planning.proofs.keep.close_to_last.Tie as tie
 
 returns : tie.Need-returns
 returns c = rw (le-ltb 0 (c .before .before .args .m) (omega arith))

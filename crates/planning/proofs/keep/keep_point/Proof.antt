@@ -1,9 +1,9 @@
--- `sampling::keep::keep_point` meets its contract.
+-- `planning::keep::keep_point` meets its contract.
 use mathlib.Core.Path.{refl, _∙_, sym}
 use native.Mathlib.Omega.{arith}
 use borrow.Author.Needs.{needs}
-use Rattle.sampling.proofs.keep.keep_point.Statement.{statement}
-use Rattle.sampling.proofs.keep.keep_point.Tie as tie
+use Rattle.planning.proofs.keep.keep_point.Statement.{statement}
+use Rattle.planning.proofs.keep.keep_point.Tie as tie
 
 close-to-last-requires : tie.Need-close-to-last-requires
 close-to-last-requires c κs = omega arith

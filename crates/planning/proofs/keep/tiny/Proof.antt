@@ -1,8 +1,8 @@
--- `sampling::keep::tiny` meets its contract.
-use Rattle.sampling.proofs.Literals.{tiny-is}
-use Rattle.sampling.proofs.Bounds.{tiny-by, not-tiny}
-use Rattle.sampling.proofs.keep.tiny.Statement.{statement}
-use Rattle.sampling.proofs.keep.tiny.Tie as tie
+-- `planning::keep::tiny` meets its contract.
+use Rattle.geometry.proofs.Literals.{tiny-is}
+use Rattle.float.proofs.Bounds.{tiny-by, not-tiny}
+use Rattle.planning.proofs.keep.tiny.Statement.{statement}
+use Rattle.planning.proofs.keep.tiny.Tie as tie
 
 returns : tie.Need-returns
 returns c = tiny-by _ _ tiny-is (c .if1 .taken)

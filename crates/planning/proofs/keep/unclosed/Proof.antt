@@ -1,5 +1,5 @@
--- `sampling::keep::unclosed` meets its contract. The invariant: the points left give what all give.
-use Rattle.sampling.specs.Loop.{close}
+-- `planning::keep::unclosed` meets its contract. The invariant: the points left give what all give.
+use Rattle.planning.specs.Ring.{close}
 use mathlib.Core.Bool.{Bool, cond}
 use Prim.Native.Nat.{ℕ}
 use mathlib.Core.Path.{ap}
@@ -8,13 +8,13 @@ use Prim.Native.Nat.{_≤_}
 use native.Mathlib.Omega.{arith}
 use borrow.Author.Needs.{needs}
 use borrow.Author.Tests.{not-true, not-false}
-use Rattle.sampling.specs.Loop as loops
-use Rattle.sampling.proofs.Keeping.{pop-step, pop-none}
-use Rattle.sampling.proofs.keep.unclosed.Statement.{statement}
-use Rattle.sampling.proofs.keep.unclosed.Tie as tie
+use Rattle.planning.specs.Ring as rings
+use Rattle.planning.proofs.Keeping.{pop-step, pop-none}
+use Rattle.planning.proofs.keep.unclosed.Statement.{statement}
+use Rattle.planning.proofs.keep.unclosed.Tie as tie
 
 abbrev Inv-loop : tie.InvT-loop
-Inv-loop kept n m₀ m = (m ≤ n) × (loops.unclosed kept m ≡ loops.unclosed kept n)
+Inv-loop kept n m₀ m = (m ≤ n) × (rings.unclosed kept m ≡ rings.unclosed kept n)
 
 abbrev μ-loop : tie.MeasureT-loop
 μ-loop kept n m₀ m = m

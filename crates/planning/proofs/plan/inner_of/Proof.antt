@@ -1,11 +1,11 @@
--- `sampling::plan::inner_of` meets its contract.
+-- `planning::plan::inner_of` meets its contract.
 use mathlib.Core.Path.{_≡_}
 use Prim.Native.Nat.{ℕ, _<_, _≤_, max}
 use native.Mathlib.Omega.{arith}
-use Rattle.sampling.proofs.Literals.{small-is}
+use Rattle.planning.proofs.Literals.{small-is}
 use borrow.Author.Needs.{needs}
-use Rattle.sampling.proofs.plan.inner_of.Statement.{statement}
-use Rattle.sampling.proofs.plan.inner_of.Tie as tie
+use Rattle.planning.proofs.plan.inner_of.Statement.{statement}
+use Rattle.planning.proofs.plan.inner_of.Tie as tie
 
 one : (k : ℕ) → k < 1 → 1 ≡ max 1 k
 one k h = omega arith

@@ -1,8 +1,8 @@
--- `sampling::plan::longer` meets its contract.
+-- `planning::plan::longer` meets its contract.
 use mathlib.Core.Path.{refl}
-use Rattle.sampling.proofs.Literals.{zero-is}
-use Rattle.sampling.proofs.plan.longer.Statement.{statement}
-use Rattle.sampling.proofs.plan.longer.Tie as tie
+use Rattle.float.proofs.Literals.{zero-is}
+use Rattle.planning.proofs.plan.longer.Statement.{statement}
+use Rattle.planning.proofs.plan.longer.Tie as tie
 
 returns : tie.Need-returns
 returns c = rw (rw zero-is at (c .before .before .if1 .taken), c .if2 .taken) (refl, refl)

@@ -1,8 +1,8 @@
--- `sampling::plan::margin_behind` meets its contract.
+-- `planning::plan::margin_behind` meets its contract.
 use borrow.Author.Tests.{eq-eqb, ne-eqb}
 use borrow.Author.Needs.{needs}
-use Rattle.sampling.proofs.plan.margin_behind.Statement.{statement}
-use Rattle.sampling.proofs.plan.margin_behind.Tie as tie
+use Rattle.planning.proofs.plan.margin_behind.Statement.{statement}
+use Rattle.planning.proofs.plan.margin_behind.Tie as tie
 
 returns : tie.Need-returns
 returns c = rw (eq-eqb _ _ (c .if1 .taken))

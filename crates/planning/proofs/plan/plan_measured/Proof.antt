@@ -1,18 +1,17 @@
--- `sampling::plan::plan_measured` meets its contract. The invariant: the first i sides are planned, and the margins of the corners from place i on stand in the spans.
+-- `planning::plan::plan_measured` meets its contract. The invariant: the first i sides are planned, and the margins of the corners from place i on stand in the spans.
 use mathlib.Core.Path.{_≡_, refl, ap}
 use Prim.Native.Nat.{ℕ, _+_, _-_, _≤_, _<_}
 use native.Mathlib.Omega.{arith}
-use lib.Ieee.{nan, neg}
+use lib.Ieee.{Float, nan, neg}
 use lib.ListN.{length, getD, length-set}
 use borrow.Author.Needs.{needs, scaled-fits}
 use Rattle.geometry.specs.Rings.{Ring}
-use Rattle.input.specs.declared.Options as declared
-use Rattle.sampling.specs.Measured.{Measured}
-use Rattle.sampling.proofs.Literals.{one-is}
-use Rattle.sampling.proofs.Stores.{table-rest}
-use Rattle.sampling.proofs.Planning.{Sofar, at-first, one-side}
-use Rattle.sampling.proofs.plan.plan_measured.Statement.{statement}
-use Rattle.sampling.proofs.plan.plan_measured.Tie as tie
+use Rattle.planning.specs.Measured.{Measured}
+use Rattle.float.proofs.Literals.{one-is}
+use Rattle.state.proofs.Stores.{table-rest}
+use Rattle.planning.proofs.Planning.{Sofar, at-first, one-side}
+use Rattle.planning.proofs.plan.plan_measured.Statement.{statement}
+use Rattle.planning.proofs.plan.plan_measured.Tie as tie
 
 abbrev Inv-loop : tie.InvT-loop
 Inv-loop n h lengths spans₀ first sum₀ best₀ start₀ i₀ spans sum best start i =
@@ -20,7 +19,7 @@ Inv-loop n h lengths spans₀ first sum₀ best₀ start₀ i₀ spans sum best 
     × (length spans ≡ length spans₀)
     × (sum ≤ 2049)
     × ((k : ℕ) → i ≤ k → k < n → getD spans k nan ≡ getD spans₀ k nan)
-    × ((o : declared.Options) (r : Ring) → Measured h o r n lengths spans₀ → Sofar h o r n i sum (best .side) (best .length) start spans)
+    × ((cornerMargin : Float) (r : Ring) → Measured h cornerMargin r n lengths spans₀ → Sofar h cornerMargin r n i sum (best .side) (best .length) start spans)
 
 abbrev μ-loop : tie.MeasureT-loop
 μ-loop n h lengths spans₀ first sum₀ best₀ start₀ i₀ spans sum best start i = n - i
@@ -31,7 +30,7 @@ slice-read-first c = omega arith
 loop-holds : tie.Need-loop-holds Inv-loop μ-loop
 loop-holds c =
     let start : tie.Start Inv-loop μ-loop = search in
-    (omega arith, refl, omega arith, λ k q l. refl, λ o r w. at-first (start .args .h) o r (start .args .n) _ _ _ w (start .pre .0) (ap neg one-is))
+    (omega arith, refl, omega arith, λ k q l. refl, λ m r w. at-first (start .args .h) m r (start .args .n) _ _ _ w (start .pre .0) (ap neg one-is))
 
 next-of-requires : tie.Need-next-of-requires Inv-loop μ-loop
 next-of-requires c κs = omega arith
@@ -94,8 +93,8 @@ loop-again c =
       simp length-set (l .inv .1),
       omega (arith, c .before .capped .ensures),
       table-rest (l .spans) nan (λ (k : ℕ). getD (start .args .spans .now) k nan) (l .i) _ _ (l .inv .3),
-      λ o r w.
-          one-side (start .args .h) o r (start .args .n) (l .i) _ _ _ _ _ _ _ _ _ _ _ _ _ _ _ (l .spans) w more room refl (l .inv .3) (l .inv .4 o r w) (at-next-of .next-of .ensures .0) (at-margin-behind .margin-behind .ensures) refl (at-span-of .span-of .ensures)
+      λ m r w.
+          one-side (start .args .h) m r (start .args .n) (l .i) _ _ _ _ _ _ _ _ _ _ _ _ _ _ _ (l .spans) w more room refl (l .inv .3) (l .inv .4 m r w) (at-next-of .next-of .ensures .0) (at-margin-behind .margin-behind .ensures) refl (at-span-of .span-of .ensures)
           (c .before .before .inner-of .ensures) (c .before .capped .ensures) (c .longer .ensures .0) (c .longer .ensures .1),
     )
 
@@ -110,8 +109,8 @@ returns c =
     let start : tie.Start Inv-loop μ-loop = search in
     let l = c .before .loop in
     let e : l .i ≡ start .args .n = omega arith in
-    λ o r w.
-    let s = l .inv .4 o r w in
+    λ m r w.
+    let s = l .inv .4 m r w in
     (ap (λ (k : ℕ). start .args .n + k) (rw e at (s .sumIs)), rw e at (s .sideIs), rw e at (s .spansAre))
 
 pub plan-measured-spec : {M : Type 1} → statement M

@@ -1,7 +1,7 @@
--- `sampling::plan::plan_sides` meets its contract.
+-- `planning::plan::plan_sides` meets its contract.
 use borrow.Author.Needs.{needs}
-use Rattle.sampling.proofs.plan.plan_sides.Statement.{statement}
-use Rattle.sampling.proofs.plan.plan_sides.Tie as tie
+use Rattle.planning.proofs.plan.plan_sides.Statement.{statement}
+use Rattle.planning.proofs.plan.plan_sides.Tie as tie
 
 measure-sides-requires : tie.Need-measure-sides-requires
 measure-sides-requires c κs = search needs
@@ -20,7 +20,7 @@ returns c =
     let at-measure-sides : tie.After-measure-sides = search in
     let start : tie.Start = search in
     let measure-sides = at-measure-sides .measure-sides in
-    let planned = c .before .before .plan-measured .ensures (start .args .options) _ (measure-sides .ensures) in
+    let planned = c .before .before .plan-measured .ensures (start .args .corner-margin) _ (measure-sides .ensures) in
     (planned .0, planned .1, measure-sides .ensures .lengthsAre, planned .2)
 
 pub plan-sides-spec : {M : Type 1} → statement M

@@ -1,8 +1,8 @@
--- `sampling::plan::span_of` meets its contract.
-use Rattle.sampling.proofs.Literals.{zero-is}
-use Rattle.sampling.proofs.Bounds.{greater-is, zero-greater}
-use Rattle.sampling.proofs.plan.span_of.Statement.{statement}
-use Rattle.sampling.proofs.plan.span_of.Tie as tie
+-- `planning::plan::span_of` meets its contract.
+use Rattle.float.proofs.Literals.{zero-is}
+use Rattle.float.proofs.Bounds.{greater-is, zero-greater}
+use Rattle.planning.proofs.plan.span_of.Statement.{statement}
+use Rattle.planning.proofs.plan.span_of.Tie as tie
 
 returns : tie.Need-returns
 returns c = greater-is _ _ zero-is (c .if1 .taken)

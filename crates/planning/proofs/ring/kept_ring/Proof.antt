@@ -1,8 +1,8 @@
--- `sampling::ring::kept_ring` meets its contract.
-use Rattle.sampling.proofs.Turning.{ring-found}
+-- `planning::ring::kept_ring` meets its contract.
+use Rattle.planning.proofs.Turning.{ring-found}
 use borrow.Author.Needs.{needs}
-use Rattle.sampling.proofs.ring.kept_ring.Statement.{statement}
-use Rattle.sampling.proofs.ring.kept_ring.Tie as tie
+use Rattle.planning.proofs.ring.kept_ring.Statement.{statement}
+use Rattle.planning.proofs.ring.kept_ring.Tie as tie
 
 unclosed-requires : tie.Need-unclosed-requires
 unclosed-requires c κs = search needs

@@ -1,7 +1,7 @@
--- `sampling::ring::ring_point` meets its contract.
+-- `planning::ring::ring_point` meets its contract.
 use borrow.Author.Needs.{needs}
-use Rattle.sampling.proofs.ring.ring_point.Statement.{statement}
-use Rattle.sampling.proofs.ring.ring_point.Tie as tie
+use Rattle.planning.proofs.ring.ring_point.Statement.{statement}
+use Rattle.planning.proofs.ring.ring_point.Tie as tie
 
 sub-point-at : tie.Need-sub-point-at
 sub-point-at c = search needs

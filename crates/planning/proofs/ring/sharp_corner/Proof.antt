@@ -1,8 +1,8 @@
--- `sampling::ring::sharp_corner` meets its contract.
-use Rattle.sampling.proofs.Turning.{sharp-step}
+-- `planning::ring::sharp_corner` meets its contract.
+use Rattle.planning.proofs.Turning.{sharp-step}
 use borrow.Author.Needs.{needs}
-use Rattle.sampling.proofs.ring.sharp_corner.Statement.{statement}
-use Rattle.sampling.proofs.ring.sharp_corner.Tie as tie
+use Rattle.planning.proofs.ring.sharp_corner.Statement.{statement}
+use Rattle.planning.proofs.ring.sharp_corner.Tie as tie
 
 prev-of-requires : tie.Need-prev-of-requires
 prev-of-requires c κs = search needs

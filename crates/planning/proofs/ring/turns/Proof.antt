@@ -1,10 +1,10 @@
--- `sampling::ring::turns` meets its contract: the sign of the area against the one asked for.
+-- `planning::ring::turns` meets its contract: the sign of the area against the one asked for.
 use mathlib.Core.Path.{_≡_, refl}
 use mathlib.Core.Bool.{Bool, true, false, not, Bool·beq}
-use Rattle.sampling.proofs.Literals.{zero-is}
+use Rattle.float.proofs.Literals.{zero-is}
 use borrow.Author.Needs.{needs}
-use Rattle.sampling.proofs.ring.turns.Statement.{statement}
-use Rattle.sampling.proofs.ring.turns.Tie as tie
+use Rattle.planning.proofs.ring.turns.Statement.{statement}
+use Rattle.planning.proofs.ring.turns.Tie as tie
 
 positive : (b : Bool) → not b ≡ not (Bool·beq true b)
 positive true = refl

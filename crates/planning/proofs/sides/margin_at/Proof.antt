@@ -1,8 +1,8 @@
--- `sampling::sides::margin_at` meets its contract.
-use Rattle.sampling.proofs.Measuring.{margin-is}
+-- `planning::sides::margin_at` meets its contract.
+use Rattle.planning.proofs.Measuring.{margin-is}
 use borrow.Author.Needs.{needs}
-use Rattle.sampling.proofs.sides.margin_at.Statement.{statement}
-use Rattle.sampling.proofs.sides.margin_at.Tie as tie
+use Rattle.planning.proofs.sides.margin_at.Statement.{statement}
+use Rattle.planning.proofs.sides.margin_at.Tie as tie
 
 sharp-corner-requires : tie.Need-sharp-corner-requires
 sharp-corner-requires c κs = search needs

@@ -1,11 +1,11 @@
--- `sampling::sides::measure_sides` meets its contract: a side's length is the root of its square.
+-- `planning::sides::measure_sides` meets its contract: a side's length is the root of its square.
 use mathlib.Core.Path.{refl}
 use Rattle.geometry.specs.Rings.{ringOf}
-use Rattle.sampling.specs.Backwards.{turnedIf}
-use Rattle.sampling.proofs.Measuring.{length-is}
+use Rattle.planning.specs.Backwards.{turnedIf}
+use Rattle.planning.proofs.Measuring.{length-is}
 use borrow.Author.Needs.{needs}
-use Rattle.sampling.proofs.sides.measure_sides.Statement.{statement}
-use Rattle.sampling.proofs.sides.measure_sides.Tie as tie
+use Rattle.planning.proofs.sides.measure_sides.Statement.{statement}
+use Rattle.planning.proofs.sides.measure_sides.Tie as tie
 
 square-sides-requires : tie.Need-square-sides-requires
 square-sides-requires c κs = search needs
@@ -27,7 +27,7 @@ returns c =
     let r = turnedIf (start .args .back) (ringOf (start .args .pts .now) (start .args .n)) in
     record {
       sizeIs = refl;
-      lengthsAre = λ i g. length-is (start .args .h) (start .args .options) r i _ _ (square-sides .ensures .0 i g) (c .before .before .take-roots .ensures i g);
+      lengthsAre = λ i g. length-is r i _ _ (square-sides .ensures .0 i g) (c .before .before .take-roots .ensures i g);
       marginsAre = square-sides .ensures .1;
     }
 

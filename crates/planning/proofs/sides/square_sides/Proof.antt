@@ -1,4 +1,4 @@
--- `sampling::sides::square_sides` meets its contract. The invariant: the first i sides and corners are written, and the next corner and the vector to it are at hand.
+-- `planning::sides::square_sides` meets its contract. The invariant: the first i sides and corners are written, and the next corner and the vector to it are at hand.
 use mathlib.Core.Path.{_≡_, refl}
 use Prim.Native.Nat.{ℕ, _-_, _≤_, _<_}
 use native.Mathlib.Nat.{not-suc-le-zero}
@@ -8,16 +8,16 @@ use lib.ListN.{length, getD, length-set}
 use borrow.Author.Needs.{needs, scaled-fits}
 use Rattle.geometry.specs.Rings.{ringOf, prev}
 use Rattle.geometry.specs.Measures.{toward}
-use Rattle.sampling.specs.Loop as loops
-use Rattle.sampling.specs.Backwards.{turnedIf}
-use Rattle.sampling.specs.Side.{along, square}
-use Rattle.sampling.proofs.Stores.{table-step}
-use Rattle.sampling.proofs.Measuring.{corner, here, first-side, margin-is, square-is, sharp-is, next-side}
-use Rattle.sampling.proofs.sides.square_sides.Statement.{statement}
-use Rattle.sampling.proofs.sides.square_sides.Tie as tie
+use Rattle.planning.specs.Plan as plans
+use Rattle.planning.specs.Backwards.{turnedIf}
+use Rattle.planning.specs.Side.{along, square}
+use Rattle.state.proofs.Stores.{table-step}
+use Rattle.planning.proofs.Measuring.{corner, here, first-side, margin-is, square-is, sharp-is, next-side}
+use Rattle.planning.proofs.sides.square_sides.Statement.{statement}
+use Rattle.planning.proofs.sides.square_sides.Tie as tie
 
 abbrev Inv-loop : tie.InvT-loop
-Inv-loop pts n back h options squares₀ margins₀ b₀ d₀ i₀ squares margins b d i =
+Inv-loop pts n back h cornerMargin squares₀ margins₀ b₀ d₀ i₀ squares margins b d i =
     let r = turnedIf back (ringOf pts n) in
     (i ≤ n)
     × (length squares ≡ length squares₀)
@@ -25,10 +25,10 @@ Inv-loop pts n back h options squares₀ margins₀ b₀ d₀ i₀ squares margi
     × (b ≡ r .at (corner n i))
     × (d ≡ toward (r .at (prev n (corner n i))) (r .at (corner n i)))
     × ((k : ℕ) → k < i → getD squares k nan ≡ square (along r k))
-    × ((k : ℕ) → k < i → getD margins k nan ≡ loops.margin h options r k)
+    × ((k : ℕ) → k < i → getD margins k nan ≡ plans.margin h cornerMargin r k)
 
 abbrev μ-loop : tie.MeasureT-loop
-μ-loop pts n back h options squares₀ margins₀ b₀ d₀ i₀ squares margins b d i = n - i
+μ-loop pts n back h cornerMargin squares₀ margins₀ b₀ d₀ i₀ squares margins b d i = n - i
 
 ring-point-requires : tie.Need-ring-point-requires Inv-loop μ-loop
 ring-point-requires c κs =
@@ -53,7 +53,7 @@ loop-holds c =
       refl,
       refl,
       rw (here (start .args .n) 0 (start .pre .1)) (c .before .before .ring-point .ensures),
-      first-side (start .args .h) (start .args .options) (turnedIf (start .args .back) (ringOf (start .args .pts .now) (start .args .n))) _ _ _ (start .pre .1) (c .before .before .ring-point .ensures) (c .before .ring-point2 .ensures) (c .toward .ensures),
+      first-side (turnedIf (start .args .back) (ringOf (start .args .pts .now) (start .args .n))) _ _ _ (start .pre .1) (c .before .before .ring-point .ensures) (c .before .ring-point2 .ensures) (c .toward .ensures),
       λ k q. absurd (not-suc-le-zero q),
       λ k q. absurd (not-suc-le-zero q),
     )
@@ -107,6 +107,9 @@ add-i c =
 loop-less : tie.Need-loop-less Inv-loop μ-loop
 loop-less c = omega arith
 
+abbrev start-of : tie.At-loop Inv-loop μ-loop → tie.Start Inv-loop μ-loop
+start-of c = search
+
 loop-again : tie.Need-loop-again Inv-loop μ-loop
 loop-again c =
     let at-sharp-between : tie.After-sharp-between Inv-loop μ-loop = search in
@@ -115,25 +118,25 @@ loop-again c =
     let at-next-of : tie.After-next-of Inv-loop μ-loop = search in
     let at-loop-test : tie.In-loop Inv-loop μ-loop = search in
     let at-loop : tie.At-loop Inv-loop μ-loop = search in
-    let start = (at-loop .before .before .before .before .before .before .before) in
+    let start = start-of at-loop in
     let l = at-loop .loop in
     let more = at-loop-test .loop-test .taken in
     let next-of = at-next-of .next-of in
     let h = start .args .h in
-    let o = start .args .options in
+    let m = start .args .corner-margin in
     let r = turnedIf (start .args .back) (ringOf (start .args .pts .now) (start .args .n)) in
     let e = at-toward2 .toward2 in
-    let side = square-is h o r (l .i) _ _ _ (l .d) _ more (next-of .ensures .0) (l .inv .3) (l .inv .4) (at-ring-point3 .ring-point3 .ensures) (e .ensures) in
-    let sharp = sharp-is h o r (l .i) _ _ _ (l .d) _ more (next-of .ensures .0) (l .inv .3) (l .inv .4) (at-ring-point3 .ring-point3 .ensures) (e .ensures) _ (at-sharp-between .sharp-between .ensures) in
+    let side = square-is r (l .i) _ _ _ (l .d) _ more (next-of .ensures .0) (l .inv .3) (l .inv .4) (at-ring-point3 .ring-point3 .ensures) (e .ensures) in
+    let sharp = sharp-is r (l .i) _ _ _ (l .d) _ more (next-of .ensures .0) (l .inv .3) (l .inv .4) (at-ring-point3 .ring-point3 .ensures) (e .ensures) _ (at-sharp-between .sharp-between .ensures) in
     let room : l .i < length (l .squares) = omega (arith, l .inv .1, more, start .pre .2) in
     let room2 : l .i < length (l .margins) = omega (arith, l .inv .2, more, start .pre .3) in (
       omega arith,
       simp length-set (l .inv .1),
       simp length-set (l .inv .2),
       rw (next-of .ensures .0) at (at-ring-point3 .ring-point3 .ensures),
-      next-side h o r (l .i) _ _ _ (l .d) _ more (next-of .ensures .0) (l .inv .3) (l .inv .4) (at-ring-point3 .ring-point3 .ensures) (e .ensures),
+      next-side r (l .i) _ _ _ (l .d) _ more (next-of .ensures .0) (l .inv .3) (l .inv .4) (at-ring-point3 .ring-point3 .ensures) (e .ensures),
       table-step (l .squares) nan (λ (k : ℕ). square (along r k)) (l .i) _ room (l .inv .5) side,
-      table-step (l .margins) nan (loops.margin h o r) (l .i) _ room2 (l .inv .6) (margin-is h o r (l .i) _ _ sharp (c .before .before .taken .ensures)),
+      table-step (l .margins) nan (plans.margin h m r) (l .i) _ room2 (l .inv .6) (margin-is h m r (l .i) _ _ sharp (c .before .before .taken .ensures)),
     )
 
 same-length : tie.Need-same-length Inv-loop μ-loop

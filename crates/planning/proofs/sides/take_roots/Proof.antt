@@ -1,4 +1,4 @@
--- `sampling::sides::take_roots` meets its contract. The invariant: the first i are roots and the others as they were.
+-- `planning::sides::take_roots` meets its contract. The invariant: the first i are roots and the others as they were.
 use mathlib.Core.Path.{_≡_, refl, _∙_, ap}
 use Prim.Native.Nat.{ℕ, _-_, _<_, _≤_}
 use native.Mathlib.Nat.{not-suc-le-zero, le-refl}
@@ -7,9 +7,9 @@ use lib.Ieee.{nan}
 use lib.ListN.{length, getD, length-set}
 use borrow.Author.Needs.{needs, scaled-fits}
 use Rattle.float.specs.Root.{root}
-use Rattle.sampling.proofs.Stores.{table-step, table-rest}
-use Rattle.sampling.proofs.sides.take_roots.Statement.{statement}
-use Rattle.sampling.proofs.sides.take_roots.Tie as tie
+use Rattle.state.proofs.Stores.{table-step, table-rest}
+use Rattle.planning.proofs.sides.take_roots.Statement.{statement}
+use Rattle.planning.proofs.sides.take_roots.Tie as tie
 
 abbrev Inv-loop : tie.InvT-loop
 Inv-loop s₀ n i₀ s i =

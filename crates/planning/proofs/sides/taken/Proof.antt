@@ -1,10 +1,10 @@
--- `sampling::sides::taken` meets its contract.
-use Rattle.sampling.proofs.Literals.{zero-is}
-use Rattle.sampling.proofs.sides.taken.Statement.{statement}
-use Rattle.sampling.proofs.sides.taken.Tie as tie
+-- `planning::sides::taken` meets its contract.
+use Rattle.float.proofs.Literals.{zero-is}
+use Rattle.planning.proofs.sides.taken.Statement.{statement}
+use Rattle.planning.proofs.sides.taken.Tie as tie
 
 returns : tie.Need-returns
-returns c = rw (c .before .if1 .taken)
+returns c = rw (c .if1 .taken)
 
 returns-2 : tie.Need-returns-2
 returns-2 c = rw (c .if1 .left) zero-is

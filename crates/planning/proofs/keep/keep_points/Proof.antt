@@ -1,5 +1,5 @@
--- `sampling::keep::keep` meets its contract. The invariant: the buffer begins with the points that the definition keeps of the first k.
-use Rattle.sampling.proofs.Keeping.{keep-step}
+-- `planning::keep::keep_points` meets its contract. The invariant: the buffer begins with the points that the definition keeps of the first k.
+use Rattle.planning.proofs.Keeping.{keep-step}
 use mathlib.Core.Path.{_≡_, refl, ap, _∙_, sym}
 use Prim.Native.Nat.{_≤_, _-_, _*_}
 use native.Mathlib.Omega.{arith}
@@ -7,18 +7,18 @@ use lib.ListN.{length}
 use lib.Seq.{sets, length-sets}
 use borrow.Author.Needs.{needs}
 use Rattle.geometry.specs.Rings.{ringOf}
-use Rattle.sampling.specs.Loop as loops
-use Rattle.sampling.proofs.keep.keep.Statement.{statement}
-use Rattle.sampling.proofs.keep.keep.Tie as tie
+use Rattle.planning.specs.Ring as rings
+use Rattle.planning.proofs.keep.keep_points.Statement.{statement}
+use Rattle.planning.proofs.keep.keep_points.Tie as tie
 
 abbrev Inv-loop : tie.InvT-loop
-Inv-loop coords n kept₀ m₀ k₀ kept m k = (k ≤ n) × (m ≤ k) × (m * 2 ≡ length (loops.kept (ringOf coords n) k)) × (kept ≡ sets kept₀ 0 (loops.kept (ringOf coords n) k)) × (length kept ≡ length kept₀)
+Inv-loop coords n kept₀ m₀ k₀ kept m k = (k ≤ n) × (m ≤ k) × (m * 2 ≡ length (rings.kept (ringOf coords n) k)) × (kept ≡ sets kept₀ 0 (rings.kept (ringOf coords n) k)) × (length kept ≡ length kept₀)
 
 abbrev μ-loop : tie.MeasureT-loop
 μ-loop coords n kept₀ m₀ k₀ kept m k = n - k
 
 loop-holds : tie.Need-loop-holds Inv-loop μ-loop
-unfolding loops.kept
+unfolding rings.kept
 loop-holds c = (omega arith, omega arith, refl, refl, refl)
 
 point-at-requires : tie.Need-point-at-requires Inv-loop μ-loop
@@ -57,8 +57,8 @@ returns c =
     let e : c .before .loop .k ≡ entry .args .n = omega arith in
     (omega arith, rw e at (c .before .loop .inv .2), rw e at (c .before .loop .inv .3))
 
-pub keep-spec : {M : Type 1} → statement M
-keep-spec =
+pub keep-points-spec : {M : Type 1} → statement M
+keep-points-spec =
     tie.close
     (tie.spec
     Inv-loop
