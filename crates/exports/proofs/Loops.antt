@@ -14,7 +14,7 @@ use Rattle.geometry.specs.declared.Point.{Point}
 use Rattle.geometry.specs.Rings.{Ring, ringOf}
 use Rattle.geometry.specs.Measures.{inPolygon, signedArea}
 use Rattle.geometry.specs.Domain.{sumOf, rings, holesArea, domainArea, inSome, contains}
-use Rattle.geometry.proofs.Literals.{zero-is}
+use Rattle.float.proofs.Literals.{zero-is}
 use Rattle.exports.specs.Outline.{loopsFit}
 
 same-test : (a b c d : ℕ) (t : Bool) → leb a b ≡ t → (a ≤ b → c ≤ d) → (b < a → d < c) → leb c d ≡ t

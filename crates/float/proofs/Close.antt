@@ -1,22 +1,17 @@
 -- A guess whose square, in f64 arithmetic, lies between two products that lie close to the number: so does its square in whole numbers, since rounding keeps the order.
 use mathlib.Core.Path.{_≡_, refl, sym, ap, _∙_, subst}
-use mathlib.Core.Logic.{inl, inr}
-use mathlib.Core.Bool.{Bool, true, false, not, _&&_, _||_, cond}
-use Prim.Native.Nat.{ℕ, zero, suc, _+_, _-_, _*_, _/_, _%_, _^_, _≤_, _<_}
+use mathlib.Core.Bool.{Bool, true, false, not, cond}
+use Prim.Native.Nat.{ℕ, suc, _+_, _-_, _*_, _/_, _%_, _^_, _≤_, _<_}
 use native.Mathlib.Nat.{mul-pos, mod-lt, eq-of-mul-eq-mul-right, lt-of-mul-lt-mul-right, lt-of-not-le}
 use native.Mathlib.Omega.{arith}
-use lib.Dec.{T, leb, eqb, ltb, leb→le, eqb→eq, ltb→lt, not-T, lit<}
+use lib.Dec.{T, leb, eqb, leb→le, eqb→eq, not-T, lit<}
 use lib.Pow.{pow-add, pow-pos}
-use lib.IntN.{ℤ}
-use lib.Ieee.{Float, nan, inf, fin, binary64, up, down, odd, mul, round, lt, eq, le, below, level, fits, isNan, ofFields, ofBits, toBits}
-use lib.Ieee.Bits.{ofBits-toBits}
+use lib.Ieee.{Float, nan, inf, fin, binary64, up, down, odd, mul, round, lt, le, isNan, ofFields, ofBits}
 use lib.Ieee.Exact.{HasValue, odd-sign}
 use lib.Ieee.Order.{round-mono}
-use lib.Ieee.Fits.{and-l, and-r}
-use lib.Ieee.Positive.{positive, positive-of-value, mul-at}
-use borrow.Author.Tests.{ltb-true}
-use Rattle.float.proofs.Signs.{clash, yes}
-use Rattle.float.proofs.Order.{or-split}
+use lib.Ieee.Positive.{positive-of-value, mul-at}
+use Rattle.float.proofs.Signs.{clash}
+use Rattle.float.proofs.Order.{not-both}
 use Rattle.float.proofs.Scaled.{two-of}
 use Rattle.float.proofs.Patterns.{ofBits-is, past-top}
 
@@ -103,48 +98,6 @@ more-value = digits-value 4607182418800017440 refl
 
 less-value : HasValue (ofBits binary64 4607182418800017344) false 9007199254740928 (2 ^ 53)
 less-value = scale (ofBits binary64 4607182418800017344) 9007199254740928 (2 ^ 53) 1021 (pattern 1021 4503599627370432 (lit< tt) (lit< tt))
-
--- ---- what is less is not as much or more
-crossed : (a b : ℕ) → a < b → b < a → ⊥
-crossed a b h k = omega arith
-
-same : (a b : ℕ) → a < b → b ≡ a → ⊥
-same a b h k = omega arith
-
-nothing : (a b : ℕ) → 0 < a + b → b ≡ a → b ≡ 0 → ⊥
-nothing a b h k l = omega arith
-
-not-below : (s t : Bool) (a b : ℕ) → T (below s a t b) → T (below t b s a) → ⊥
-not-below false false a b h k = crossed a b (ltb→lt a b h) (ltb→lt b a k)
-not-below false true a b h k = h
-not-below true false a b h k = k
-not-below true true a b h k = crossed b a (ltb→lt b a h) (ltb→lt a b k)
-
-not-level : (s t : Bool) (a b : ℕ) → T (below s a t b) → T (level t b s a) → ⊥
-not-level false false a b h k = same a b (ltb→lt a b h) (eqb→eq b a (and-l (eqb b a) true k))
-not-level false true a b h k = h
-not-level true false a b h k = nothing a b (ltb→lt 0 (a + b) h) (eqb→eq b a (and-l (eqb b a) (eqb b 0) k)) (eqb→eq b 0 (and-r (eqb b a) (eqb b 0) k))
-not-level true true a b h k = same b a (ltb→lt b a h) (sym (eqb→eq b a (and-l (eqb b a) true k)))
-
-not-both : (p q : Float) → lt p q ≡ true → T (le q p) → ⊥
-unfolding lt eq le
-not-both nan q h k = clash h refl
-not-both (inf s) nan h k = clash h refl
-not-both (inf true) (inf true) h k = clash h refl
-not-both (inf true) (inf false) h k = k
-not-both (inf false) (inf t) h k = clash h refl
-not-both (inf true) (fin t n d) h k = k
-not-both (inf false) (fin t n d) h k = clash h refl
-not-both (fin s m e) nan h k = clash h refl
-not-both (fin s m e) (inf true) h k = clash h refl
-not-both (fin s m e) (inf false) h k = k
-not-both (fin s m e) (fin t n d) h k =
-    let a = m * up e * down d in
-    let b = n * up d * down e in
-    elim (or-split (below t b s a) (level t b s a) k) [
-      | inl l ↦ not-below s t a b (yes h) l
-      | inr l ↦ not-level s t a b (yes h) l
-    ]
 
 -- ---- products
 module _ (w x y z : Float) (a A b B c C d D : ℕ) (W : HasValue w false a A) (X : HasValue x false b B) (Y : HasValue y false c C) (Z : HasValue z false d D)

@@ -6,7 +6,7 @@ use Prim.Native.Nat.{ℕ, zero, suc, _+_, _*_, _^_, _≤_, _<_}
 use native.Mathlib.Nat.{eq-or-lt-of-le, mul-pos, zero-lt-suc}
 use native.Mathlib.Omega.{arith}
 use lib.IntN.{pos}
-use lib.Dec.{T, ltb, eqb, ltb→lt, lt→ltb, eqb→eq}
+use lib.Dec.{T, ltb, eqb, lt→ltb, eqb→eq}
 use lib.Ieee.{Float, nan, inf, fin, binary64, Format, prec, emax, low, up, down, odd, units, round, sum, add, mul, fits, isNan, lt, eq, le}
 use lib.Ieee.Fits.{eq→eqb, and-l, up-pos, down-pos, round-is, cond-fits}
 use borrow.Author.Tests.{ltb-false}
@@ -14,12 +14,16 @@ use Rattle.float.specs.Helpers.{decimal, lesser}
 use Rattle.float.specs.Root.{root}
 use Rattle.float.proofs.Signs.{clash, yes, fits-zero}
 use Rattle.float.proofs.Theorems.{same-value}
-use Rattle.float.proofs.Order.{clear, suc-positive, or-split, or-l, or-r, zero-le, root-clear, root-number, root-fits, root-monotone}
+use Rattle.float.proofs.Order.{clear, suc-positive, not-both, or-l, or-r, zero-le, root-clear, root-number, root-fits, root-monotone}
 
 -- ---- the order of two values whose sign is clear
 is-false : (b : Bool) → T (not b) → b ≡ false
 is-false true n = absurd n
 is-false false n = refl
+
+is-true : (b : Bool) → T b → b ≡ true
+is-true true t = refl
+is-true false t = absurd t
 
 -- of two values one is at most the other
 total : (a b : Float) → T (clear a) → T (clear b) → T (not (isNan a)) → T (not (isNan b)) → lt b a ≡ false → T (le a b)
@@ -39,37 +43,9 @@ total (fin false k e) (fin false j f) c d n m h = go (k * up e * down f) (j * up
   where
     both : (a b : ℕ) → a ≡ b → T (eqb a b && true)
     both a b e = subst (λ (t : Bool). T (t && true)) (sym (is-true (eqb a b) (eq→eqb e))) tt
-      where
-        is-true : (b : Bool) → T b → b ≡ true
-        is-true true t = refl
-        is-true false t = absurd t
 
     go : (a b : ℕ) → a ≤ b → T (ltb a b || (eqb a b && true))
     go a b l = elim (eq-or-lt-of-le l) [ inl e ↦ or-r (ltb a b) (eqb a b && true) (both a b e) | inr g ↦ or-l (ltb a b) (eqb a b && true) (lt→ltb a b g) ]
-
-not-both : (a b : Float) → T (clear a) → T (clear b) → T (lt b a) → T (le a b) → ⊥
-unfolding le lt eq
-not-both nan b c d g h = h
-not-both (inf true) b c d g h = c
-not-both (inf false) nan c d g h = g
-not-both (inf false) (inf true) c d g h = d
-not-both (inf false) (inf false) c d g h = g
-not-both (inf false) (fin t k e) c d g h = h
-not-both (fin true k e) b c d g h = c
-not-both (fin false k e) nan c d g h = g
-not-both (fin false k e) (inf true) c d g h = d
-not-both (fin false k e) (inf false) c d g h = g
-not-both (fin false k e) (fin true j f) c d g h = d
-not-both (fin false k e) (fin false j f) c d g h = go (k * up e * down f) (j * up f * down e) (ltb→lt (j * up f * down e) (k * up e * down f) g) h
-  where
-    less : (a b : ℕ) → b < a → a < b → ⊥
-    less a b p q = omega arith
-
-    same : (a b : ℕ) → b < a → a ≡ b → ⊥
-    same a b p q = omega arith
-
-    go : (a b : ℕ) → b < a → T (ltb a b || (eqb a b && true)) → ⊥
-    go a b l t = elim (or-split (ltb a b) (eqb a b && true) t) [ inl u ↦ less a b l (ltb→lt a b u) | inr u ↦ same a b l (eqb→eq a b (and-l (eqb a b) true u)) ]
 
 -- two that compare equal are the same f64
 eq-same : (a b : Float) → T (fits binary64 a) → T (fits binary64 b) → T (clear a) → T (clear b) → T (eq a b) → a ≡ b
@@ -155,7 +131,7 @@ module _ (a b : Float) (F : T (fits binary64 a)) (G : T (fits binary64 b)) (c : 
       absurd
       (elim (nan-or b) [
         | inl m ↦ lt-nan (root a) (subst (λ (v : Float). T (lt v (root a))) (ap root m ∙ root-nan) (yes e))
-        | inr m ↦ not-both (root a) (root b) (root-clear a F c) (root-clear b G d) (yes e) (root-monotone a b F G (not-negative a c n) (total a b c d n m h))
+        | inr m ↦ not-both (root b) (root a) e (root-monotone a b F G (not-negative a c n) (total a b c d n m h))
       ])
 
   picked : (t : Bool) → lt b a ≡ t → root (pick t a b) ≡ pick (lt (root b) (root a)) (root a) (root b)
@@ -178,7 +154,7 @@ root-reflects x y F G c d n m h = go (lt x y) refl
   where
     go : (t : Bool) → lt x y ≡ t → T t
     go true e = tt
-    go false e = not-both (root y) (root x) (root-clear y G d) (root-clear x F c) h (root-monotone y x G F (not-negative y d m) (total y x d c m n e))
+    go false e = not-both (root x) (root y) (is-true (lt (root x) (root y)) h) (root-monotone y x G F (not-negative y d m) (total y x d c m n e))
 
 -- ---- what has a clear sign
 clear-odd : (k q i j : ℕ) → T (clear (odd k false q i j))

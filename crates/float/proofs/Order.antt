@@ -1,5 +1,5 @@
--- The root keeps the order (`root-monotone`).
-use mathlib.Core.Path.{_≡_, sym, ap, _∙_, subst}
+-- The root keeps the order (`root-monotone`); what is less is not as much or more (`not-both`).
+use mathlib.Core.Path.{_≡_, refl, sym, ap, _∙_, subst}
 use mathlib.Core.Logic.{_⊎_, inl, inr}
 use mathlib.Core.Bool.{Bool, true, false, not, _||_, Bool·beq}
 use Prim.Native.Nat.{ℕ, zero, suc, _+_, _*_, _/_, _^_, _≤_, _<_}
@@ -10,13 +10,14 @@ use lib.Dec.{T, ltb, eqb, ltb→lt, lt→ltb, eqb→eq}
 use lib.Pow.{pow-pos, pow-mono}
 use lib.Ieee.{Float, nan, inf, fin, binary64, up, down, units, round, below, level, fits, isNan, lt, eq, le}
 use lib.Ieee.Digits.{size-reaches, size-lt}
-use lib.Ieee.Fits.{and-l, up-pos, down-pos}
+use lib.Ieee.Fits.{and-l, and-r, up-pos, down-pos}
 use lib.Ieee.Exact.{HasValue}
 use lib.Ieee.Nearest.{div-mono}
 use lib.Ieee.Order.{le-of-values}
 use lib.Ieee.Positive.{num, den, positive, den-pos, le→cross, above, above-of-le}
 use Rattle.float.specs.Helpers.{decimal}
 use Rattle.float.specs.Root.{root}
+use Rattle.float.proofs.Signs.{clash, yes}
 use Rattle.float.proofs.Held.{pow-lt-back}
 use Rattle.float.proofs.Whole.{root-mono}
 use Rattle.float.proofs.Scaled.{Scaled, moved, found, four, size-of, moved-times, is-root, least-kept, most-kept, root-value}
@@ -95,6 +96,48 @@ or-r false b t = t
 pub or-l : (a b : Bool) → T a → T (a || b)
 or-l true b t = tt
 or-l false b t = absurd t
+
+-- ---- what is less is not as much or more
+crossed : (a b : ℕ) → a < b → b < a → ⊥
+crossed a b h k = omega arith
+
+same : (a b : ℕ) → a < b → b ≡ a → ⊥
+same a b h k = omega arith
+
+nothing : (a b : ℕ) → 0 < a + b → b ≡ a → b ≡ 0 → ⊥
+nothing a b h k l = omega arith
+
+not-below : (s t : Bool) (a b : ℕ) → T (below s a t b) → T (below t b s a) → ⊥
+not-below false false a b h k = crossed a b (ltb→lt a b h) (ltb→lt b a k)
+not-below false true a b h k = h
+not-below true false a b h k = k
+not-below true true a b h k = crossed b a (ltb→lt b a h) (ltb→lt a b k)
+
+not-level : (s t : Bool) (a b : ℕ) → T (below s a t b) → T (level t b s a) → ⊥
+not-level false false a b h k = same a b (ltb→lt a b h) (eqb→eq b a (and-l (eqb b a) true k))
+not-level false true a b h k = h
+not-level true false a b h k = nothing a b (ltb→lt 0 (a + b) h) (eqb→eq b a (and-l (eqb b a) (eqb b 0) k)) (eqb→eq b 0 (and-r (eqb b a) (eqb b 0) k))
+not-level true true a b h k = same b a (ltb→lt b a h) (sym (eqb→eq b a (and-l (eqb b a) true k)))
+
+pub not-both : (p q : Float) → lt p q ≡ true → T (le q p) → ⊥
+unfolding lt eq le
+not-both nan q h k = clash h refl
+not-both (inf s) nan h k = clash h refl
+not-both (inf true) (inf true) h k = clash h refl
+not-both (inf true) (inf false) h k = k
+not-both (inf false) (inf t) h k = clash h refl
+not-both (inf true) (fin t n d) h k = k
+not-both (inf false) (fin t n d) h k = clash h refl
+not-both (fin s m e) nan h k = clash h refl
+not-both (fin s m e) (inf true) h k = clash h refl
+not-both (fin s m e) (inf false) h k = k
+not-both (fin s m e) (fin t n d) h k =
+    let a = m * up e * down d in
+    let b = n * up d * down e in
+    elim (or-split (below t b s a) (level t b s a) k) [
+      | inl l ↦ not-below s t a b (yes h) l
+      | inr l ↦ not-level s t a b (yes h) l
+    ]
 
 -- a zero's size, over any fraction
 nil : (a b : ℕ) → 0 * a * b ≡ 0

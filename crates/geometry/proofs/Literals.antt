@@ -1,12 +1,9 @@
--- The literals of the code, which MIR has by their bits, are the definitions' decimals. One law for each.
+-- The literals of the code, which MIR has by their bits, are the definitions' decimals. One law for each; float has that of 0.0, which is passed on.
 use mathlib.Core.Path.{_≡_, refl}
 use mathlib.Core.Bool.{false}
 use lib.Ieee.{inf, binary64, div, ofBits, round}
 use Rattle.float.specs.Helpers.{decimal}
-
-pub zero-is : ofBits binary64 0 ≡ decimal 0 0
-unfolding round ofBits
-zero-is = refl
+pub use Rattle.float.proofs.Literals.{zero-is}
 
 pub two-is : ofBits binary64 0x4000_0000_0000_0000 ≡ decimal 2 0
 unfolding round ofBits

@@ -1,7 +1,7 @@
 -- The steps of the loops over a ring's sides, said once for every ring.
 use mathlib.Core.Path.{_≡_, refl, sym, ap, _∙_}
 use mathlib.Core.Bool.{Bool, true, false, not, cond, Bool·beq, true≢false}
-use Prim.Native.Nat.{ℕ, _+_, _-_, _<_}
+use Prim.Native.Nat.{ℕ, _+_, _-_, _≤_, _<_}
 use native.Mathlib.Numerals.{add-one}
 use native.Mathlib.Omega.{arith}
 use borrow.Author.Tests.{eq-eqb, ne-eqb}
@@ -87,14 +87,20 @@ swapped false true false = refl
 swapped false false true = refl
 swapped false false false = refl
 
--- `inside` has the closing side and the sides up to place i
+-- `inside` has the closing side and the sides up to place i, whose point `below` tests
 pub record Counted (p : Point) (r : Ring) (i : ℕ) (inside below : Bool) : Type 0 where
+  pub place : i < r .size
   pub test : below ≡ lt (p .y) (r .at i .y)
   pub count : inside ≡ cond (rayCrosses p (r .at (r .size - 1)) (r .at 0)) (not (insideSoFar p r i)) (insideSoFar p r i)
 
-pub closing-counted : (p : Point) (r : Ring) (a b : Point) (t : Bool) → a ≡ r .at (r .size - 1) → b ≡ r .at 0 → t ≡ rayCrosses p a b → Counted p r 0 t (lt (p .y) (b .y))
+pub closing-counted : (p : Point) (r : Ring) (a b : Point) (t : Bool) → (r .size ≡ 0 → ⊥) → a ≡ r .at (r .size - 1) → b ≡ r .at 0 → t ≡ rayCrosses p a b → Counted p r 0 t (lt (p .y) (b .y))
 unfolding insideSoFar
-closing-counted p r a b t ha hb ht = record { test = rw hb; count = rw (ht, ha, hb) (first-turned (rayCrosses p (r .at (r .size - 1)) (r .at 0))) }
+closing-counted p r a b t some ha hb ht =
+    record {
+      place = omega (arith, some);
+      test = rw hb;
+      count = rw (ht, ha, hb) (first-turned (rayCrosses p (r .at (r .size - 1)) (r .at 0)));
+    }
 
 module _ {p : Point} {r : Ring} {i : ℕ} {inside below : Bool} (so-far : Counted p r i inside below) where
   pub test-at : (a : Point) → a ≡ r .at i → below ≡ lt (p .y) (a .y)
@@ -105,6 +111,7 @@ module _ {p : Point} {r : Ring} {i : ℕ} {inside below : Bool} (so-far : Counte
       let closing = rayCrosses p (r .at (r .size - 1)) (r .at 0) in
       let ends : Ends r i a b = record { first = ha; second = rw (next-plain (r .size) i (i + 1) refl h) hb } in
       record {
+        place = omega arith;
         test = rw hb;
         count = rw (so-far .count, ← crossing-step r i a b ends p (insideSoFar p r i) t refl ht) (swapped closing (insideSoFar p r i) t);
       }
@@ -125,11 +132,13 @@ module _ {p : Point} {r : Ring} {i : ℕ} {inside below : Bool} (so-far : Counte
       kept true = refl
       kept false = refl
 
-  pub all-counted : 0 < r .size → i ≡ r .size - 1 → inside ≡ inPolygon p r
+  pub all-counted : r .size - 1 ≤ i → inside ≡ inPolygon p r
   unfolding inPolygon
-  all-counted h e =
+  all-counted passed =
+      let some : 0 < r .size = omega (arith, so-far .place) in
+      let e : i ≡ r .size - 1 = omega (arith, so-far .place) in
       let closing = rayCrosses p (r .at (r .size - 1)) (r .at 0) in
-      let ends : Ends r i (r .at (r .size - 1)) (r .at 0) = record { first = ap (r .at) (sym e); second = ap (r .at) (sym (next-last (r .size) i h e)) } in
+      let ends : Ends r i (r .at (r .size - 1)) (r .at 0) = record { first = ap (r .at) (sym e); second = ap (r .at) (sym (next-last (r .size) i some e)) } in
       let whole : i + 1 ≡ r .size = omega arith in
       so-far .count ∙ sym (turned (insideSoFar p r i) closing) ∙ crossing-step r i _ _ ends p (insideSoFar p r i) closing refl refl ∙ ap (insideSoFar p r) whole
 

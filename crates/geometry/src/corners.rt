@@ -39,24 +39,41 @@ pub fn corner_passes(before: Point, here: Point, after: Point, back: f64, forth:
     false
 }
 
-// The corner test of the quad `a b c d`. A side's length, the same from either end, is taken once, and not before it is needed.
-pub fn corners_pass(a: Point, b: Point, c: Point, d: Point) -> bool
+// The corner test of the quad `a b c d` whose sides have these lengths.
+pub fn corners_pass_with(
+    a: Point,
+    b: Point,
+    c: Point,
+    d: Point,
+    ab: f64,
+    bc: f64,
+    cd: f64,
+    da: f64,
+) -> bool
+    requires { ⌜ (ab ≡ sideLength a b) × (bc ≡ sideLength b c) × (cd ≡ sideLength c d) × (da ≡ sideLength d a) ⌝ }
     ensures { λ r. ⌜ r ≡ cornersPass a b c d ⌝ }
 {
-    let ab = side_length(a, b);
-    let da = side_length(d, a);
     if !corner_passes(d, a, b, da, ab) {
         return false;
     }
-    let bc = side_length(b, c);
     if !corner_passes(a, b, c, ab, bc) {
         return false;
     }
-    let cd = side_length(c, d);
     if !corner_passes(b, c, d, bc, cd) {
         return false;
     }
     corner_passes(c, d, a, cd, da)
+}
+
+// The corner test of the quad `a b c d`. A side's length, the same from either end, is taken once.
+pub fn corners_pass(a: Point, b: Point, c: Point, d: Point) -> bool
+    ensures { λ r. ⌜ r ≡ cornersPass a b c d ⌝ }
+{
+    let ab = side_length(a, b);
+    let bc = side_length(b, c);
+    let cd = side_length(c, d);
+    let da = side_length(d, a);
+    corners_pass_with(a, b, c, d, ab, bc, cd, da)
 }
 
 // The least corner value of the quad `a b c d`.

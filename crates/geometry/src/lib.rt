@@ -9,6 +9,7 @@ mod sides;
 
 pub use corners::corner_passes;
 pub use corners::corners_pass;
+pub use corners::corners_pass_with;
 pub use corners::least_corner;
 pub use corners::quad_area;
 pub use corners::sharp_turn;

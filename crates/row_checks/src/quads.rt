@@ -4,37 +4,8 @@ ghost use mathlib.Core.Path.{_≡_};
 ghost use mathlib.Core.Bool.{_&&_};
 ghost use Prim.Native.Nat.{ℕ, _*_, _+_, _<_, _≤_};
 ghost use lib.ListN.{getD, length};
-ghost use Rattle.geometry.specs.Measures.{cornersPass, sideLength};
 ghost use Rattle.rules.specs.Checks.{allLongEnough};
 ghost use Rattle.row_checks.specs.Candidate.{cornersBetween};
-use geometry::Point;
-use geometry::corner_passes;
-
-// The corner test of the quad `a b c d` whose sides have these lengths.
-fn corners_stand(
-    a: Point,
-    b: Point,
-    c: Point,
-    d: Point,
-    old_side: f64,
-    new_side: f64,
-    rung: f64,
-    next_rung: f64,
-) -> bool
-    requires { ⌜ («old_side» ≡ sideLength a b) × («new_side» ≡ sideLength d c) × (rung ≡ sideLength a d) × («next_rung» ≡ sideLength b c) ⌝ }
-    ensures { λ r. ⌜ r ≡ cornersPass a b c d ⌝ }
-{
-    if !corner_passes(d, a, b, rung, old_side) {
-        return false;
-    }
-    if !corner_passes(a, b, c, old_side, next_rung) {
-        return false;
-    }
-    if !corner_passes(b, c, d, next_rung, new_side) {
-        return false;
-    }
-    corner_passes(c, d, a, new_side, rung)
-}
 
 // No new side is shorter than `least`, and every quad between the old nodes and the new points passes the corner test.
 pub fn all_quads_stand(points: &[f64], old: &[u16], row: &[f64], n: usize, least: f64) -> bool
@@ -55,7 +26,7 @@ pub fn all_quads_stand(points: &[f64], old: &[u16], row: &[f64], n: usize, least
         }
         let old_side = geometry::side_length(a, b);
         let next_rung = geometry::side_length(b, c);
-        if !corners_stand(a, b, c, d, old_side, new_side, rung, next_rung) {
+        if !geometry::corners_pass_with(a, b, c, d, old_side, next_rung, new_side, rung) {
             return false;
         }
         a = b;

@@ -1,4 +1,5 @@
-use Rattle.geometry.proofs.Literals.{two-is, zero-is}
+use Rattle.float.proofs.Literals.{zero-is}
+use Rattle.geometry.proofs.Literals.{two-is}
 use Rattle.geometry.specs.Measures.{quadArea}
 use borrow.Author.Needs.{needs}
 use Rattle.geometry.proofs.corners.quad_area.Statement.{statement}

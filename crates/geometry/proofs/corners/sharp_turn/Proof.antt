@@ -1,4 +1,5 @@
-use Rattle.geometry.proofs.Literals.{three-is, zero-is}
+use Rattle.float.proofs.Literals.{zero-is}
+use Rattle.geometry.proofs.Literals.{three-is}
 use Rattle.geometry.proofs.corners.sharp_turn.Statement.{statement}
 use Rattle.geometry.proofs.corners.sharp_turn.Tie as tie
 

@@ -1,6 +1,6 @@
 use mathlib.Core.Path.{ap, sym, _∙_}
 use Rattle.geometry.specs.Domain.{domainArea}
-use Rattle.geometry.proofs.Literals.{zero-is}
+use Rattle.float.proofs.Literals.{zero-is}
 use Rattle.geometry.proofs.Outline.{area-of, no-loops, room-first, room-holes}
 use borrow.Author.Needs.{needs}
 use Rattle.geometry.proofs.domain.domain_area.Statement.{statement}

@@ -8,7 +8,7 @@ use Rattle.float.specs.Helpers.{decimal}
 use native.Mathlib.Omega.{arith}
 use borrow.Author.Needs.{needs}
 use Rattle.geometry.specs.Domain.{holesArea, rings}
-use Rattle.geometry.proofs.Literals.{zero-is}
+use Rattle.float.proofs.Literals.{zero-is}
 use Rattle.geometry.proofs.domain.holes_area.Statement.{statement}
 use Rattle.geometry.proofs.domain.holes_area.Tie as tie
 

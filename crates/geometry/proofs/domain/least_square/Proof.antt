@@ -6,7 +6,7 @@ use borrow.Author.Needs.{needs}
 use Rattle.geometry.specs.Rings.{ringOf}
 use Rattle.geometry.specs.Measures.{shortInDomain}
 use Rattle.geometry.specs.Squares.{leastSquare}
-use Rattle.geometry.proofs.Literals.{zero-is}
+use Rattle.float.proofs.Literals.{zero-is}
 use Rattle.geometry.proofs.Steps.{square-step}
 use Rattle.geometry.proofs.domain.least_square.Statement.{statement}
 use Rattle.geometry.proofs.domain.least_square.Tie as tie

@@ -5,7 +5,7 @@ use borrow.Author.Needs.{needs}
 use Rattle.geometry.specs.Rings.{nodeRing}
 use mathlib.Core.Path.{_≡_}
 use lib.ListN.{length}
-use Rattle.geometry.proofs.Literals.{zero-is}
+use Rattle.float.proofs.Literals.{zero-is}
 use Rattle.geometry.specs.Measures.{frontLength, lengthSum}
 use Rattle.geometry.proofs.Steps.{length-step}
 use Rattle.geometry.proofs.rings.front_length.Statement.{statement}

@@ -1,6 +1,6 @@
 -- `geometry::rings::in_front` meets its contract. The invariant: `inside` has the closing side and the sides up to place i, whose point `below` tests. The measure is the sides left.
 use mathlib.Core.Path.{refl}
-use Prim.Native.Nat.{_+_, _≤_, _<_, _-_}
+use Prim.Native.Nat.{_+_, _<_, _-_}
 use lib.ListN.{length}
 use native.Mathlib.Omega.{arith}
 use borrow.Author.Needs.{needs}
@@ -10,7 +10,7 @@ use Rattle.geometry.proofs.rings.in_front.Statement.{statement}
 use Rattle.geometry.proofs.rings.in_front.Tie as tie
 
 abbrev Inv-loop : tie.InvT-loop
-Inv-loop p pts nodes n last inside₀ below₀ i₀ inside below i = (i ≤ last) × Counted p (nodeRing pts nodes) i inside below
+Inv-loop p pts nodes n last inside₀ below₀ i₀ inside below i = Counted p (nodeRing pts nodes) i inside below
 
 abbrev μ-loop : tie.MeasureT-loop
 μ-loop p pts nodes n last inside₀ below₀ i₀ inside below i = last - i
@@ -38,8 +38,11 @@ ray-crosses-requires c κs = search needs
 
 loop-holds : tie.Need-loop-holds Inv-loop μ-loop
 loop-holds c =
-    let d = c .before .before in
-    (omega arith, closing-counted _ _ _ _ _ (d .before .before .node-point .ensures) (d .before .node-point2 .ensures) (d .ray-crosses .ensures))
+    let closing : tie.After-ray-crosses Inv-loop μ-loop = search in
+    let at-first : tie.After-node-point2 Inv-loop μ-loop = search in
+    let at-end : tie.After-node-point Inv-loop μ-loop = search in
+    let some : tie.Else1 Inv-loop μ-loop = search in
+    closing-counted _ _ _ _ _ (some .if1 .left) (at-end .node-point .ensures) (at-first .node-point2 .ensures) (closing .ray-crosses .ensures)
 
 add-j : tie.Need-add-j Inv-loop μ-loop
 add-j c = omega arith
@@ -60,28 +63,29 @@ node-point-requires-4 c κs =
 crosses-between-requires : tie.Need-crosses-between-requires Inv-loop μ-loop
 crosses-between-requires c κs =
     let at-loop : tie.At-loop Inv-loop μ-loop = search in
-    (test-at (at-loop .loop .inv .1) _ (c .node-point4 .ensures), refl)
+    (test-at (at-loop .loop .inv) _ (c .node-point4 .ensures), refl)
 
 loop-less : tie.Need-loop-less Inv-loop μ-loop
 loop-less c = omega arith
 
 loop-again : tie.Need-loop-again Inv-loop μ-loop
 loop-again c =
-    let d = c .before .before .before .before .before in
-    (omega arith, one-counted (d .before .before .loop .inv .1) _ _ _ (d .before .loop-test .taken) (c .before .node-point4 .ensures) (d .node-point3 .ensures) (c .crosses-between .ensures))
+    let at-a : tie.After-node-point4 Inv-loop μ-loop = search in
+    let at-b : tie.After-node-point3 Inv-loop μ-loop = search in
+    let more : tie.In-loop Inv-loop μ-loop = search in
+    one-counted (more .before .loop .inv) _ _ _ (more .loop-test .taken) (at-a .node-point4 .ensures) (at-b .node-point3 .ensures) (c .crosses-between .ensures)
 
 loop-less-2 : tie.Need-loop-less-2 Inv-loop μ-loop
 loop-less-2 c = omega arith
 
 loop-again-2 : tie.Need-loop-again-2 Inv-loop μ-loop
 loop-again-2 c =
-    let d = c .before .before .before in
-    (omega arith, one-beside (d .before .before .loop .inv .1) _ (d .before .loop-test .taken) (d .node-point3 .ensures) (c .if2 .left))
+    let at-b : tie.After-node-point3 Inv-loop μ-loop = search in
+    let more : tie.In-loop Inv-loop μ-loop = search in
+    one-beside (more .before .loop .inv) _ (more .loop-test .taken) (at-b .node-point3 .ensures) (c .if2 .left)
 
 returns-2 : tie.Need-returns-2 Inv-loop μ-loop
-returns-2 c =
-    let e = c .before .before .before .before .before .before in
-    all-counted (c .before .loop .inv .1) (omega (arith, e .before .if1 .left)) (omega arith)
+returns-2 c = all-counted (c .before .loop .inv) (c .loop-test .left)
 
 pub in-front-spec : {M : Type 1} → statement M
 in-front-spec =

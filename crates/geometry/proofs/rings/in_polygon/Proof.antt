@@ -1,6 +1,6 @@
 -- `geometry::rings::in_polygon` meets its contract. The invariant: `inside` has the closing side and the sides up to place i, whose point `below` tests. The measure is the sides left.
 use mathlib.Core.Path.{refl}
-use Prim.Native.Nat.{_≤_, _-_}
+use Prim.Native.Nat.{_-_}
 use native.Mathlib.Omega.{arith}
 use borrow.Author.Needs.{needs}
 use Rattle.geometry.specs.Rings.{ringOf}
@@ -9,7 +9,7 @@ use Rattle.geometry.proofs.rings.in_polygon.Statement.{statement}
 use Rattle.geometry.proofs.rings.in_polygon.Tie as tie
 
 abbrev Inv-loop : tie.InvT-loop
-Inv-loop p pts n last inside₀ below₀ i₀ inside below i = (i ≤ last) × Counted p (ringOf pts n) i inside below
+Inv-loop p pts n last inside₀ below₀ i₀ inside below i = Counted p (ringOf pts n) i inside below
 
 abbrev μ-loop : tie.MeasureT-loop
 μ-loop p pts n last inside₀ below₀ i₀ inside below i = last - i
@@ -31,8 +31,11 @@ ray-crosses-requires c κs = search needs
 
 loop-holds : tie.Need-loop-holds Inv-loop μ-loop
 loop-holds c =
-    let d = c .before .before in
-    (omega arith, closing-counted _ _ _ _ _ (d .before .before .point-at .ensures) (d .before .point-at2 .ensures) (d .ray-crosses .ensures))
+    let closing : tie.After-ray-crosses Inv-loop μ-loop = search in
+    let at-first : tie.After-point-at2 Inv-loop μ-loop = search in
+    let at-end : tie.After-point-at Inv-loop μ-loop = search in
+    let some : tie.Else1 Inv-loop μ-loop = search in
+    closing-counted _ _ _ _ _ (some .if1 .left) (at-end .point-at .ensures) (at-first .point-at2 .ensures) (closing .ray-crosses .ensures)
 
 add-j : tie.Need-add-j Inv-loop μ-loop
 add-j c = omega arith
@@ -46,28 +49,29 @@ point-at-requires-4 c κs = omega arith
 crosses-between-requires : tie.Need-crosses-between-requires Inv-loop μ-loop
 crosses-between-requires c κs =
     let at-loop : tie.At-loop Inv-loop μ-loop = search in
-    (test-at (at-loop .loop .inv .1) _ (c .point-at4 .ensures), refl)
+    (test-at (at-loop .loop .inv) _ (c .point-at4 .ensures), refl)
 
 loop-less : tie.Need-loop-less Inv-loop μ-loop
 loop-less c = omega arith
 
 loop-again : tie.Need-loop-again Inv-loop μ-loop
 loop-again c =
-    let d = c .before .before .before .before .before in
-    (omega arith, one-counted (d .before .before .loop .inv .1) _ _ _ (d .before .loop-test .taken) (c .before .point-at4 .ensures) (d .point-at3 .ensures) (c .crosses-between .ensures))
+    let at-a : tie.After-point-at4 Inv-loop μ-loop = search in
+    let at-b : tie.After-point-at3 Inv-loop μ-loop = search in
+    let more : tie.In-loop Inv-loop μ-loop = search in
+    one-counted (more .before .loop .inv) _ _ _ (more .loop-test .taken) (at-a .point-at4 .ensures) (at-b .point-at3 .ensures) (c .crosses-between .ensures)
 
 loop-less-2 : tie.Need-loop-less-2 Inv-loop μ-loop
 loop-less-2 c = omega arith
 
 loop-again-2 : tie.Need-loop-again-2 Inv-loop μ-loop
 loop-again-2 c =
-    let d = c .before .before .before in
-    (omega arith, one-beside (d .before .before .loop .inv .1) _ (d .before .loop-test .taken) (d .point-at3 .ensures) (c .if2 .left))
+    let at-b : tie.After-point-at3 Inv-loop μ-loop = search in
+    let more : tie.In-loop Inv-loop μ-loop = search in
+    one-beside (more .before .loop .inv) _ (more .loop-test .taken) (at-b .point-at3 .ensures) (c .if2 .left)
 
 returns-2 : tie.Need-returns-2 Inv-loop μ-loop
-returns-2 c =
-    let e = c .before .before .before .before .before .before in
-    all-counted (c .before .loop .inv .1) (omega (arith, e .before .if1 .left)) (omega arith)
+returns-2 c = all-counted (c .before .loop .inv) (c .loop-test .left)
 
 pub in-polygon-spec : {M : Type 1} → statement M
 in-polygon-spec =

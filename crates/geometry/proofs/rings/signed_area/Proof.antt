@@ -6,7 +6,8 @@ use native.Mathlib.Omega.{arith}
 use borrow.Author.Needs.{needs}
 use Rattle.geometry.specs.Rings.{Ring, ringOf}
 use Rattle.geometry.specs.Measures.{areaSum, signedArea}
-use Rattle.geometry.proofs.Literals.{half-zero-is, two-is, zero-is}
+use Rattle.float.proofs.Literals.{zero-is}
+use Rattle.geometry.proofs.Literals.{half-zero-is, two-is}
 use Rattle.geometry.proofs.Steps.{Added, all-added, none-added, one-added}
 use Rattle.geometry.proofs.rings.signed_area.Statement.{statement}
 use Rattle.geometry.proofs.rings.signed_area.Tie as tie

@@ -9,11 +9,20 @@ use lib.ListN.{length, getD}
 use Rattle.rules.specs.Checks.{every}
 use Rattle.geometry.specs.Rings.{pointAt, next}
 use Rattle.geometry.specs.Measures.{sideLength}
+<<<<<<< HEAD:crates/row_checks/proofs/quads/all_quads_stand/Proof.antt
 use Rattle.state.proofs.Basics.{and-false}
 use Rattle.rules.proofs.Every.{every-none, every-more, every-stops, every-end, too-near, far-enough}
 use Rattle.row_checks.proofs.Sides.{longEnough, cornersGood, next-inner, side-of, corners-of}
 use Rattle.row_checks.proofs.quads.all_quads_stand.Statement.{statement}
 use Rattle.row_checks.proofs.quads.all_quads_stand.Tie as tie
+=======
+use Rattle.geometry.proofs.Flip.{length-flip}
+use Rattle.candidate.proofs.Basics.{and-false}
+use Rattle.candidate.proofs.Every.{every-none, every-more, every-stops, every-end, too-near, far-enough}
+use Rattle.candidate.proofs.Sides.{longEnough, cornersGood, next-inner, side-of, corners-of}
+use Rattle.candidate.proofs.quads.all_quads_stand.Statement.{statement}
+use Rattle.candidate.proofs.quads.all_quads_stand.Tie as tie
+>>>>>>> geo:crates/candidate/proofs/quads/all_quads_stand/Proof.antt
 
 abbrev Inv-loop : tie.InvT-loop
 Inv-loop points old row n least a₀ d₀ rung₀ i₀ a d rung i =
@@ -74,11 +83,15 @@ side-length-requires-3 c κs = search needs
 side-length-requires-4 : tie.Need-side-length-requires-4 Inv-loop μ-loop
 side-length-requires-4 c κs = search needs
 
-corners-stand-requires : tie.Need-corners-stand-requires Inv-loop μ-loop
-corners-stand-requires c κs =
+corners-pass-with-requires : tie.Need-corners-pass-with-requires Inv-loop μ-loop
+corners-pass-with-requires c κs =
     let at-side-length2 : tie.After-side-length2 Inv-loop μ-loop = search in
-    let at-loop : tie.At-loop Inv-loop μ-loop = search in
-    (c .before .side-length3 .ensures, at-side-length2 .side-length2 .ensures, at-loop .loop .inv .3, c .side-length4 .ensures)
+    let at-loop : tie.At-loop Inv-loop μ-loop = search in (
+      c .before .side-length3 .ensures,
+      c .side-length4 .ensures,
+      at-side-length2 .side-length2 .ensures ∙ length-flip _ _,
+      at-loop .loop .inv .3 ∙ length-flip _ _,
+    )
 
 returns-2 : tie.Need-returns-2 Inv-loop μ-loop
 returns-2 c =
@@ -91,7 +104,7 @@ returns-2 c =
     let t : tie.At-loop Inv-loop μ-loop = search in
     let l = at-loop-test .loop-test .taken in
     let w = t .loop .inv .4 l in
-    let q = corners-of (a .points .now) (a .row .now) (a .old .now) (a .n) (t .loop .i) (c .before .corners-stand .ensures) (w .0) (at-node-point2 .node-point2 .ensures) (at-point-at2 .point-at2 .ensures) (w .1) (at-next-of .next-of .ensures .0) (not-true _ (c .if2 .taken)) in
+    let q = corners-of (a .points .now) (a .row .now) (a .old .now) (a .n) (t .loop .i) (c .before .corners-pass-with .ensures) (w .0) (at-node-point2 .node-point2 .ensures) (at-point-at2 .point-at2 .ensures) (w .1) (at-next-of .next-of .ensures .0) (not-true _ (c .if2 .taken)) in
     let e = every-stops (cornersGood (a .points .now) (a .old .now) (a .row .now) (a .n)) (t .loop .i) (a .n) l q in
     sym (and-false (every (longEnough (a .least) (a .row .now) (a .n)) (a .n))) ∙ ap (λ b. every (longEnough (a .least) (a .row .now) (a .n)) (a .n) && b) e
 
@@ -123,7 +136,7 @@ loop-again c =
     let b-is = at-node-point2 .node-point2 .ensures in
     let c-is = at-point-at2 .point-at2 .ensures in
     let s = side-of (a .row .now) (a .n) (t .loop .i) (at-side-length2 .side-length2 .ensures) (w .1) c-is next-is in
-    let q = corners-of (a .points .now) (a .row .now) (a .old .now) (a .n) (t .loop .i) (c .before .corners-stand .ensures) (w .0) b-is c-is (w .1) next-is (not-false _ (c .if2 .left)) in (
+    let q = corners-of (a .points .now) (a .row .now) (a .old .now) (a .n) (t .loop .i) (c .before .corners-pass-with .ensures) (w .0) b-is c-is (w .1) next-is (not-false _ (c .if2 .left)) in (
       omega (arith, l),
       every-more (longEnough (a .least) (a .row .now) (a .n)) (t .loop .i) (t .loop .inv .1) (far-enough (a .least) s (at-if1 .if1 .left)),
       every-more (cornersGood (a .points .now) (a .old .now) (a .row .now) (a .n)) (t .loop .i) (t .loop .inv .2) q,
@@ -158,7 +171,7 @@ all-quads-stand-spec =
     returns
     side-length-requires-3
     side-length-requires-4
-    corners-stand-requires
+    corners-pass-with-requires
     returns-2
     add-i
     loop-less
