@@ -1,12 +1,12 @@
 -- Two nodes of a ring that are no neighbours are on none of its sides.
-use mathlib.Core.Path.{_≡_, refl, ap, sym, _∙_}
-use mathlib.Core.List.{List, [], _∷_, _++_, map}
+use mathlib.Core.Path.{_≡_, ap, sym, _∙_}
+use mathlib.Core.List.{List}
 use mathlib.Core.Logic.{_⊎_, inl, inr}
-use Prim.Native.Nat.{ℕ, zero, suc, _+_, _*_, _≤_, _<_}
+use Prim.Native.Nat.{ℕ, _≤_, _<_}
 use native.Mathlib.Omega.{arith}
 use lib.ListN.{length, getD}
 use Rattle.geometry.specs.Rings.{next}
-use Rattle.pairs.specs.Pairs.{isPair, sum, sides}
+use Rattle.pairs.specs.Pairs.{isPair, sides}
 use Rattle.pairs.proofs.Sums.{sum-none}
 use Rattle.pairs.proofs.Occurs.{occurs, occurs-here, occurs-once}
 use Rattle.pairs.proofs.Sides.{pair-cases, pair-flip, next-below}

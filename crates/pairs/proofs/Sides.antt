@@ -1,15 +1,15 @@
 -- Laws on counting a pair of nodes over the sides of rings. Stated over lists of nodes in general.
 use mathlib.Core.Path.{_≡_, refl, ap, ap₂, sym, _∙_}
 use mathlib.Core.Bool.{Bool, true, false, cond, _&&_, _||_, and-comm, or-comm}
-use mathlib.Core.List.{List, [], _∷_, _++_, map}
+use mathlib.Core.List.{List, [], _∷_, _++_}
 use mathlib.Core.Logic.{_⊎_, inl, inr}
-use Prim.Native.Nat.{ℕ, zero, suc, _+_, _*_, _≤_, _<_}
+use Prim.Native.Nat.{ℕ, zero, suc, _+_, _≤_, _<_}
 use native.Mathlib.Omega.{arith}
 use lib.Dec.{eqb}
 use lib.ListN.{length, getD, set}
-use borrow.Author.Tests.{eq-eqb, ne-eqb, eqb-true, eqb-false}
+use borrow.Author.Tests.{eqb-true, eqb-false}
 use Rattle.geometry.specs.Rings.{next}
-use Rattle.state.specs.State.{Quad, quad, quadNodes}
+use Rattle.state.specs.State.{quad, quadNodes}
 use Rattle.pairs.specs.Pairs.{isPair, sum, sides, sidesOfAll}
 use Rattle.pairs.proofs.Sums.{sum-cong, sum-none, sum-once}
 use Rattle.pairs.proofs.Occurs.{occurs, occurs-none, occurs-once, occursInAll}

@@ -1,10 +1,7 @@
 -- Laws on finite sums of a function's values. Each is stated over any function.
-use mathlib.Core.Path.{_≡_, refl, ap, sym, _∙_, ap₂}
+use mathlib.Core.Path.{_≡_, refl, ap, ap₂}
 use Prim.Native.Nat.{ℕ, zero, suc, _+_, _*_, _≤_, _<_}
-use mathlib.Core.Logic.{_⊎_, inl, inr}
 use native.Mathlib.Omega.{arith}
-use native.Mathlib.Nat.{add-suc, eq-or-lt-of-le}
-use native.Mathlib.Numerals.{add-one, towards-suc}
 use borrow.Author.Tests.{eq-eqb, ne-eqb}
 use Rattle.geometry.specs.Rings.{next}
 use Rattle.pairs.specs.Pairs.{sum}

@@ -1,18 +1,18 @@
 -- What an accepted job, and a fan of its answer, come to.
 use mathlib.Core.Path.{_≡_, refl, ap, sym, _∙_, subst}
 use mathlib.Core.Bool.{Bool, true, false, cond, not, _||_}
-use mathlib.Core.List.{List, [], _∷_, _++_, map}
+use mathlib.Core.List.{List, [], _∷_, _++_}
 use mathlib.Core.Logic.{_⊎_, inl, inr}
-use Prim.Native.Nat.{ℕ, zero, suc, _+_, _*_, _/_, _%_, _≤_, _<_}
+use Prim.Native.Nat.{ℕ, suc, _+_, _*_, _/_, _%_}
 use native.Mathlib.Omega.{arith}
 use lib.Dec.{eqb, ltb}
 use lib.ListN.{length, getD, length-append}
-use lib.Ieee.{Float, le}
-use borrow.Author.Tests.{eqb-true, eqb-false, ne-eqb, not-false}
+use lib.Ieee.{le}
+use borrow.Author.Tests.{eqb-false, ne-eqb, not-false}
 use Rattle.float.specs.Helpers.{decimal, isFinite}
 use Rattle.geometry.specs.Rings.{nodeRing}
 use Rattle.geometry.specs.Domain.{rings}
-use Rattle.state.specs.State.{State, Held, Lengths, Quad, quad, nodes, joined, written, reading}
+use Rattle.state.specs.State.{State, Lengths, nodes, written}
 use Rattle.input.specs.Job.{Job, inputNumber}
 use Rattle.state.specs.Outcome.{Outcome, refused, gives, firstOf, test}
 use Rattle.sampling.specs.Sample.{sampled, onJob}
@@ -20,7 +20,7 @@ use Rattle.state.specs.Call.{numberOf, jobLeft}
 use Rattle.rules.specs.Checks.{every, quadPasses}
 use Rattle.state.specs.Given.{member}
 use Rattle.rules.specs.Passes.{somePasses}
-use Rattle.rules.specs.Closing.{closure, keptFronts, closed, closings}
+use Rattle.rules.specs.Closing.{closed, closings}
 use Rattle.rules.specs.Fan.{centre, fanQuads, fanned, fan}
 use Rattle.rules.specs.Calls.{andThen, paved, jobCall}
 use Rattle.pairs.specs.Pairs.{sidesOfAll, pairCount}
@@ -31,8 +31,8 @@ use Rattle.state.proofs.Outcomes.{gives-same, not-both, first-none, numbered-gi
 use Rattle.rules.proofs.Numbers.{RefusedIn}
 use Rattle.rules.proofs.Refusals.{jobRefusals, jobOutcome, job-in}
 use Rattle.rules.proofs.Invariant.{Good, noQuad, laidCount}
-use Rattle.rules.proofs.SampleGood.{Fresh, sampled-fresh, fresh-good}
-use Rattle.rules.proofs.PassGood.{GoodState, Advances, passes-advance}
+use Rattle.rules.proofs.SampleGood.{sampled-fresh, fresh-good}
+use Rattle.rules.proofs.PassGood.{GoodState, passes-advance}
 use Rattle.rules.proofs.ClosingGood.{closing-good}
 use Rattle.rules.proofs.FanGood.{fan-count, fan-corners}
 

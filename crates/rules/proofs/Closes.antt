@@ -1,18 +1,18 @@
 -- What it takes for quads to close a front, and that such a closing keeps the invariant. Any number of nodes and quads may close so.
-use mathlib.Core.Path.{_≡_, refl, ap, sym, _∙_}
+use mathlib.Core.Path.{_≡_, ap, _∙_}
 use mathlib.Core.Bool.{true}
-use mathlib.Core.List.{List, [], _∷_, _++_, map}
+use mathlib.Core.List.{List, _∷_, _++_, map}
 use mathlib.Core.Logic.{_⊎_, inl, inr}
-use Prim.Native.Nat.{ℕ, zero, suc, _+_, _*_, _/_, _%_, _≤_, _<_}
+use Prim.Native.Nat.{ℕ, _+_, _*_, _/_, _≤_, _<_}
 use native.Mathlib.Omega.{arith}
 use lib.ListN.{length, getD}
 use lib.Ieee.{Float}
-use Rattle.state.specs.State.{Quad, quad, quadNodes}
+use Rattle.state.specs.State.{Quad, quadNodes}
 use Rattle.rules.specs.Checks.{quadPasses}
 use Rattle.pairs.specs.Pairs.{sides, sidesOfAll}
 use Rattle.rules.proofs.Lists.{all-append, below-or-from}
 use Rattle.pairs.proofs.Occurs.{occurs, occursInAll, occurs-append-all}
-use Rattle.pairs.proofs.Sides.{sides-none-left, sides-none-right, sides-append-all, sides-none-left-all, sides-none-right-all}
+use Rattle.pairs.proofs.Sides.{sides-none-left, sides-none-right, sides-append-all, sides-none-left-all}
 use Rattle.rules.proofs.Invariant.{Good, Below, noQuad, laidCount, laid-append}
 
 -- the nodes of a quad are nodes of f

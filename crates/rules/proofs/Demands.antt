@@ -1,32 +1,31 @@
 -- The demands hold.
-use mathlib.Core.Path.{_≡_, refl, ap, ap₂, sym, _∙_, subst, subst₂}
+use mathlib.Core.Path.{_≡_, refl, ap, sym, _∙_, subst, subst₂}
 use mathlib.Core.Bool.{Bool, true, false, cond}
-use mathlib.Core.List.{List, [], _∷_, _++_, map, append-assoc}
-use Prim.Native.Nat.{ℕ, zero, suc, _+_, _-_, _*_, _/_, _%_, _≤_, _<_}
+use mathlib.Core.List.{List, _++_, map, append-assoc}
+use Prim.Native.Nat.{ℕ, _*_, _%_, _≤_}
 use native.Mathlib.Omega.{arith}
 use lib.Dec.{eqb}
-use lib.ListN.{length, getD, take, replicate, length-append}
+use lib.ListN.{length, take, length-append}
 use lib.Seq.{take-at}
-use lib.Ieee.{Float}
 use Rattle.float.specs.Helpers.{decimal}
-use Rattle.state.specs.State.{State, Held, Lengths, Quad, quadNodes, nodes, joined, padded, written, reading}
+use Rattle.state.specs.State.{State, Held, Lengths, Quad, nodes, joined, padded, written, reading}
 use Rattle.input.specs.Job.{Job}
 use Rattle.state.specs.Outcome.{Outcome, refused, gives}
 use Rattle.sampling.specs.Sample.{sampled}
 use Rattle.state.specs.Call.{numberOf, stateLeft, onState}
 use Rattle.rules.specs.Passes.{somePasses}
-use Rattle.rules.specs.Closing.{closure, keptFronts, closed}
+use Rattle.rules.specs.Closing.{closure, closed}
 use Rattle.rules.specs.Fan.{fan}
 use Rattle.rules.specs.Calls.{jobCall, fanCall}
-use Rattle.rules.specs.Demands.{sampledLoops, Tiled, underLimit, Begins, Demand1, Demand3}
+use Rattle.rules.specs.Demands.{sampledLoops, Tiled, underLimit, Begins, Demand3}
 use Rattle.state.proofs.Outcomes.{gives-same, not-both}
 use Rattle.state.proofs.Growing.{numbers, numbers-append, length-numbers}
 use Rattle.state.proofs.Written.{reading-written}
-use Rattle.rules.proofs.SampleGood.{Fresh, sampled-fresh, fresh-good}
+use Rattle.rules.proofs.SampleGood.{sampled-fresh, fresh-good}
 use Rattle.rules.proofs.PassGood.{GoodState, Advances, passes-prefix, passes-advance}
 use Rattle.rules.proofs.Limits.{sampled-same, passes-same}
-use Rattle.rules.proofs.Refusals.{demand-1, stateNumber}
-use Rattle.rules.proofs.Answers.{Made, Accepted, job-accepted, made-good, good-tiled, Fanned, fan-tiled}
+use Rattle.rules.proofs.Refusals.{stateNumber}
+use Rattle.rules.proofs.Answers.{job-accepted, made-good, good-tiled, Fanned, fan-tiled}
 
 -- ---- each answer
 

@@ -1,5 +1,5 @@
 -- A fan of the one front that is left: pairs are still counted never or twice, and every quad passes.
-use mathlib.Core.Path.{_≡_, refl, ap, ap₂, sym, _∙_}
+use mathlib.Core.Path.{_≡_, refl, ap, sym, _∙_}
 use mathlib.Core.Bool.{true}
 use mathlib.Core.List.{List, [], _∷_, _++_, map, map-append}
 use mathlib.Core.Logic.{_⊎_, inl, inr}
@@ -18,7 +18,7 @@ use Rattle.rules.proofs.Lists.{all-append, below-or-from, twice}
 use Rattle.pairs.proofs.Sums.{sum-cong, sum-add, sum-none, sum-once, sum-next, sum-pairs}
 use Rattle.pairs.proofs.Occurs.{occurs, occursInAll, occurs-none, occurs-once}
 use Rattle.pairs.proofs.Sides.{pair-cases, pair-le, pair-swap, next-cases, quad-sides, sides-append-all, sides-none-left, sides-none-right}
-use Rattle.rules.proofs.Invariant.{Good, Below, noQuad, laidCount, laid-append, passes-append}
+use Rattle.rules.proofs.Invariant.{Good, noQuad, laidCount, laid-append, passes-append}
 use Rattle.rules.proofs.ClosingGood.{turned-sides}
 
 pub fan-length : (pts : List Float) (f : List ℕ) (c k : ℕ) → length (fanQuads pts f c k) ≡ k

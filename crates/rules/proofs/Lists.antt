@@ -1,14 +1,14 @@
 -- Laws on lists and tests that several proofs here use.
-use mathlib.Core.Path.{_≡_, refl, ap, sym, _∙_}
+use mathlib.Core.Path.{_≡_, refl}
 use mathlib.Core.Bool.{Bool, true, false, _&&_, _||_}
-use mathlib.Core.List.{List, [], _∷_, _++_, map}
+use mathlib.Core.List.{List, [], _∷_, _++_}
 use Prim.Native.Nat.{ℕ, zero, suc, _+_, _*_, _/_, _≤_, _<_}
 use native.Mathlib.Omega.{arith}
 use native.Mathlib.Nat.{eq-or-lt-of-le, le-of-suc-le-suc}
 use mathlib.Core.Logic.{_⊎_, inl, inr}
 use lib.Dec.{ltb}
 use borrow.Author.Tests.{ltb-true, ltb-false}
-use lib.ListN.{length, getD, length-append, List·getD-append}
+use lib.ListN.{length, getD, List·getD-append}
 use lib.Ieee.{Float, nan}
 use Rattle.geometry.specs.Rings.{pointAt}
 use Rattle.rules.specs.Checks.{every}

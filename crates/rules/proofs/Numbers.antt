@@ -1,21 +1,20 @@
 -- Which numbers a step can refuse with.
-use mathlib.Core.Path.{_≡_, refl, ap, sym, _∙_, subst}
-use mathlib.Core.Bool.{Bool, true, false, cond, not, _&&_, _||_}
-use mathlib.Core.List.{List, [], _∷_, _++_, map}
-use Prim.Native.Nat.{ℕ, zero, suc, _+_, _/_, _%_}
+use mathlib.Core.Path.{_≡_, refl, ap, sym, subst}
+use mathlib.Core.Bool.{Bool, true, false, cond, _&&_}
+use mathlib.Core.List.{List, [], _∷_, map}
+use Prim.Native.Nat.{ℕ, zero, suc, _+_}
 use native.Mathlib.Omega.{arith}
-use lib.Dec.{eqb, ltb, leb}
-use lib.ListN.{length, getD}
+use lib.Dec.{eqb, ltb}
+use lib.ListN.{length}
 use lib.Ieee.{Float}
-use borrow.Author.Tests.{eqb-true, eqb-false, ne-eqb}
+use borrow.Author.Tests.{eqb-true}
 use Rattle.geometry.specs.Rings.{Ring}
-use Rattle.geometry.specs.Domain.{rings, domainArea}
-use Rattle.state.specs.State.{State, Lengths, nodes}
+use Rattle.geometry.specs.Domain.{rings}
+use Rattle.state.specs.State.{State, Lengths}
 use Rattle.input.specs.Job.{Job, inputNumber}
-use Rattle.state.specs.Outcome.{Outcome, refused, gives, Test, test, firstOf}
+use Rattle.state.specs.Outcome.{Outcome, refused, gives, Test, firstOf}
 use Rattle.planning.specs.Ring.{loopRing}
 use Rattle.planning.specs.Plan.{planned}
-use Rattle.placing.specs.Placed.{placed}
 use Rattle.placing.specs.Loop.{sampleLoop}
 use Rattle.sampling.specs.Sample.{empty, withLoop, sampleFrom, sampled}
 use Rattle.rules.specs.Row.{rowNumber, nextRow}

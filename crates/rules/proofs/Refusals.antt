@@ -1,11 +1,11 @@
 -- Demand 1: every call answers 0 or a listed number, and what a refusal leaves.
-use mathlib.Core.Path.{_≡_, refl, ap, sym, _∙_, subst}
+use mathlib.Core.Path.{_≡_, refl}
 use mathlib.Core.Bool.{Bool, true, false, cond}
 use mathlib.Core.List.{List, [], _∷_}
-use Prim.Native.Nat.{ℕ, zero, suc}
+use Prim.Native.Nat.{ℕ}
 use lib.Dec.{eqb, leb}
 use lib.ListN.{length}
-use Rattle.state.specs.State.{State, Held, Lengths, lengths, zeros, written, reading}
+use Rattle.state.specs.State.{State, Held, Lengths, lengths, zeros, reading}
 use Rattle.input.specs.Job.{Job, inputNumber}
 use Rattle.state.specs.Outcome.{Outcome, refused, gives, firstOf, test}
 use Rattle.sampling.specs.Sample.{sampled, onJob}
@@ -19,7 +19,7 @@ use Rattle.rules.specs.Fan.{fan}
 use Rattle.rules.specs.Calls.{andThen, paved, jobCall, closeCall, fanCall}
 use Rattle.rules.specs.Demands.{jobNumbers, rowNumbers, closeNumbers, fanNumbers, Listed, Demand1}
 use Rattle.rules.proofs.Lists.{or-true-right}
-use Rattle.rules.proofs.Numbers.{RefusedIn, gives-in, refused-in, allMembers, member-widen, first-in, chosen-in, inputNumbers, input-listed, loopNumbers, sampled-in, rowRefusals, row-in, passes-in, closings-in, fanRefusals, fan-in}
+use Rattle.rules.proofs.Numbers.{RefusedIn, refused-in, allMembers, member-widen, first-in, chosen-in, inputNumbers, input-listed, loopNumbers, sampled-in, rowRefusals, row-in, passes-in, closings-in, fanRefusals, fan-in}
 
 pub widen : {A : Type 0} (x : Outcome A) (xs ys : List ℕ) → allMembers xs ys ≡ true → RefusedIn xs x → RefusedIn ys x
 unfolding RefusedIn

@@ -1,14 +1,14 @@
 -- A row keeps the invariant: the front is replaced, n points and n quads are added.
-use mathlib.Core.Path.{_≡_, refl, ap, sym, _∙_}
+use mathlib.Core.Path.{_≡_, refl, ap, _∙_}
 use mathlib.Core.Bool.{true}
-use mathlib.Core.List.{List, [], _∷_, _++_, map}
+use mathlib.Core.List.{List, [], _∷_, _++_}
 use mathlib.Core.Logic.{_⊎_, inl, inr}
 use Prim.Native.Nat.{ℕ, zero, suc, _+_, _*_, _/_, _%_, _≤_, _<_}
 use native.Mathlib.Omega.{arith}
 use lib.ListN.{length, getD, set, length-append}
 use lib.Ieee.{Float}
 use Rattle.geometry.specs.Rings.{next}
-use Rattle.state.specs.State.{Quad, quad, quadNodes, numbered}
+use Rattle.state.specs.State.{Quad, quad, numbered}
 use Rattle.rules.specs.Checks.{quadPasses, rowQuads}
 use Rattle.pairs.specs.Pairs.{sides, sidesOfAll}
 use Rattle.rules.proofs.Lists.{all-append, below-or-from, twice}

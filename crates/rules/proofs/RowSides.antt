@@ -1,17 +1,17 @@
 -- The sides of a row's quads: those of the old front, those of the new one, and twice the rungs between them.
-use mathlib.Core.Path.{_≡_, refl, ap, sym, _∙_}
-use mathlib.Core.List.{List, [], _∷_, _++_, map, map-append}
-use mathlib.Core.Logic.{_⊎_, inl, inr}
+use mathlib.Core.Path.{_≡_, refl, ap, _∙_}
+use mathlib.Core.List.{List, [], _∷_, map, map-append}
+use mathlib.Core.Logic.{inl, inr}
 use Prim.Native.Nat.{ℕ, zero, suc, _+_, _*_, _≤_, _<_}
 use native.Mathlib.Omega.{arith}
 use lib.ListN.{length, getD, length-append}
 use Rattle.geometry.specs.Rings.{next}
-use Rattle.state.specs.State.{Quad, quad, quadNodes, numbered}
+use Rattle.state.specs.State.{quad, quadNodes, numbered}
 use Rattle.rules.specs.Checks.{rowQuads}
 use Rattle.pairs.specs.Pairs.{isPair, sum, sides, sidesOfAll}
 use Rattle.rules.proofs.Lists.{below-or-from}
 use Rattle.pairs.proofs.Sums.{sum-cong, sum-add, sum-none, sum-once, sum-next}
-use Rattle.pairs.proofs.Occurs.{occurs, occurs-none, occurs-once, numbered-at}
+use Rattle.pairs.proofs.Occurs.{occurs, occurs-none, numbered-at}
 use Rattle.state.proofs.Growing.{length-numbered}
 use Rattle.pairs.proofs.Sides.{pair-cases, pair-le, pair-not-left, pair-flip, pair-swap, next-below, quad-sides, sides-append-all}
 

@@ -1,17 +1,17 @@
 -- What sampling makes meets the invariant: each loop is a front of its own nodes, and nothing is laid.
-use mathlib.Core.Path.{_≡_, refl, ap, sym, _∙_, subst}
-use mathlib.Core.Bool.{Bool, true, false, cond, not}
-use mathlib.Core.List.{List, [], _∷_, _++_, map}
-use mathlib.Core.Logic.{_⊎_, inl, inr}
-use Prim.Native.Nat.{ℕ, zero, suc, _+_, _*_, _/_, _%_, _≤_, _<_}
+use mathlib.Core.Path.{_≡_, refl, ap, subst}
+use mathlib.Core.Bool.{Bool, true, false}
+use mathlib.Core.List.{List, [], _∷_, _++_}
+use mathlib.Core.Logic.{inl, inr}
+use Prim.Native.Nat.{ℕ, zero, suc, _+_, _/_, _%_, _≤_}
 use native.Mathlib.Omega.{arith}
 use lib.Dec.{eqb, ltb}
-use lib.ListN.{length, getD, length-append}
+use lib.ListN.{length, length-append}
 use lib.Ieee.{Float}
 use borrow.Author.Tests.{ltb-false}
 use Rattle.geometry.specs.Rings.{Ring}
 use Rattle.geometry.specs.Domain.{rings}
-use Rattle.state.specs.State.{State, Quad, quadNodes, nodes, numbered}
+use Rattle.state.specs.State.{State, nodes, numbered}
 use Rattle.input.specs.Job.{Job}
 use Rattle.state.specs.Outcome.{Outcome, refused, gives, firstOf, test}
 use Rattle.planning.specs.Ring.{loopRing}
@@ -24,7 +24,7 @@ use Rattle.rules.proofs.Lists.{below-or-from, twice}
 use Rattle.state.proofs.Outcomes.{gives-same, not-both, first-none, numbered-gives}
 use Rattle.pairs.proofs.Occurs.{occurs, occursInAll, occurs-append-all, numbered-before, numbered-beyond, numbered-once}
 use Rattle.state.proofs.Growing.{length-numbered}
-use Rattle.pairs.proofs.Sides.{sides-none-left, sides-none-right, sides-once, sides-append-all, sides-none-left-all, sides-none-right-all}
+use Rattle.pairs.proofs.Sides.{sides-none-left, sides-once, sides-append-all, sides-none-left-all, sides-none-right-all}
 use Rattle.rules.proofs.Invariant.{Good}
 
 -- ---- one loop: whole points, and at least four

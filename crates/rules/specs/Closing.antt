@@ -1,6 +1,6 @@
 -- Closing fronts of four and six nodes (`close_small_fronts`). Definitions only.
 use Prim.Native.Nat.{ℕ, zero, suc, _+_, _%_}
-use mathlib.Core.Bool.{Bool, true, false, not, cond, _&&_, _||_}
+use mathlib.Core.Bool.{false, cond, _&&_, _||_}
 use mathlib.Core.List.{List, [], _∷_, _++_, map}
 use lib.ListN.{length, getD}
 use lib.Dec.{eqb, ltb}

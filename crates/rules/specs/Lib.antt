@@ -7,4 +7,5 @@ pub mod Passes
 pub mod Closing
 pub mod Fan
 pub mod Calls
+pub mod Plates
 pub mod Demands

@@ -1,11 +1,11 @@
 -- A front's node projected inward (`project`), in the order of the Rust's operations. Definitions only.
 use Prim.Native.Nat.{ℕ}
-use mathlib.Core.Bool.{Bool, true, false, cond, _&&_, _||_}
+use mathlib.Core.Bool.{cond, _&&_, _||_}
 use mathlib.Core.List.{List, [], _∷_}
 use lib.Ieee.{Float, neg, lt}
 use Rattle.float.specs.Helpers.{decimal, lesser}
 use Rattle.float.specs.Root.{root}
-use Rattle.geometry.specs.F64.{_⊕_, _⊖_, _⊗_, _⊘_}
+use Rattle.geometry.specs.F64.{_⊕_, _⊗_, _⊘_}
 use Rattle.geometry.specs.declared.Point.{Point}
 use Rattle.geometry.specs.Measures.{toward, cross, dot, sideLength, sharpTurn}
 use Rattle.rules.specs.declared.Projection.{Projection}

@@ -1,6 +1,6 @@
 -- Whether a ring is simple (`loop_is_simple`): a search of the pairs of sides that ends at the first crossing. Definitions only.
 use Prim.Native.Nat.{ℕ, zero, suc, _+_, _-_}
-use mathlib.Core.Bool.{Bool, true, false, not, cond, _&&_, _||_}
+use mathlib.Core.Bool.{Bool, false, not, cond, _&&_, _||_}
 use lib.Dec.{eqb, leb}
 use Rattle.geometry.specs.Rings.{Ring, next}
 use Rattle.geometry.specs.Measures.{segmentsCross}
