@@ -2,11 +2,14 @@
 // the eight counts in document 01's order. Each answers 0 or a refusal's number; another length of a buffer is number 1.
 ghost use mathlib.Core.Path.{_≡_};
 ghost use lib.ListN.{length};
-ghost use Rattle.sampling.specs.Call.{answer, job, lengthsOf, held};
-ghost use Rattle.sampling.specs.Sample.{sampleCall};
-ghost use Rattle.paving.specs.RowCall.{rowCall};
-ghost use Rattle.exports.specs.Calls.{optionsOf};
-use sampling::Options;
+ghost use Rattle.state.specs.Call.{lengthsOf};
+ghost use Rattle.input.specs.Job.{job};
+ghost use Rattle.exports.specs.Calls.{optionsOf, passed, rowPassed, samplePassed};
+use crate::counts::clear_counts;
+use crate::counts::counts_of;
+use crate::counts::put_counts;
+use input::Options;
+use state::Answer;
 
 fn options_of(
     corner_margin: f64,
@@ -43,10 +46,15 @@ pub extern "C" fn pave_sample(
     front_lengths: &mut [u16],
     counts: &mut [u64],
 ) -> u32
-    ensures { λ r. ⌜ answer r (held (now (points .exit)) (now (quads .exit)) (now («front_nodes» .exit)) (now («front_lengths» .exit)) (now (counts .exit)))
-        ≡ sampleCall (job (now (coords .entry)) (now («loop_lengths» .entry)) h (optionsOf «corner_margin» «min_edge_fraction» «front_gap» «max_row_rounds» seam))
-        (lengthsOf (length (now (points .entry))) (length (now (quads .entry))) (length (now («front_nodes» .entry))) (length (now («front_lengths» .entry))) (length (now (counts .entry)))) ⌝ }
+    ensures { λ r. ⌜ passed r (now (points .exit)) (now (quads .exit)) (now («front_nodes» .exit)) (now («front_lengths» .exit)) (now (counts .exit))
+        ≡ samplePassed (job (now (coords .entry)) (now («loop_lengths» .entry)) h (optionsOf «corner_margin» «min_edge_fraction» «front_gap» «max_row_rounds» seam))
+        (lengthsOf (length (now (points .entry))) (length (now (quads .entry))) (length (now («front_nodes» .entry))) (length (now («front_lengths» .entry)))) (length (now (counts .entry))) ⌝ }
 {
+    if counts.len() != 8 {
+        state::clear_all(points, quads, front_nodes, front_lengths);
+        clear_counts(counts);
+        return 1;
+    }
     let options = options_of(
         corner_margin,
         min_edge_fraction,
@@ -54,7 +62,7 @@ pub extern "C" fn pave_sample(
         max_row_rounds,
         seam,
     );
-    sampling::sample(
+    let answer = sampling::sample(
         coords,
         loop_lengths,
         h,
@@ -63,8 +71,17 @@ pub extern "C" fn pave_sample(
         quads,
         front_nodes,
         front_lengths,
-        counts,
-    )
+    );
+    match answer {
+        Answer::Done(after) => {
+            put_counts(counts, after);
+            0
+        }
+        Answer::Refused(number) => {
+            clear_counts(counts);
+            number
+        }
+    }
 }
 
 // A row laid on front `front` of the state in the buffers, or nothing changed.
@@ -85,10 +102,12 @@ pub extern "C" fn pave_row(
     front_lengths: &mut [u16],
     counts: &mut [u64],
 ) -> u32
-    ensures { λ r. ⌜ answer r (held (now (points .exit)) (now (quads .exit)) (now («front_nodes» .exit)) (now («front_lengths» .exit)) (now (counts .exit)))
-        ≡ rowCall (job (now (coords .entry)) (now («loop_lengths» .entry)) h (optionsOf «corner_margin» «min_edge_fraction» «front_gap» «max_row_rounds» seam)) front
-        (held (now (points .entry)) (now (quads .entry)) (now («front_nodes» .entry)) (now («front_lengths» .entry)) (now (counts .entry))) ⌝ }
+    ensures { λ r. ⌜ passed r (now (points .exit)) (now (quads .exit)) (now («front_nodes» .exit)) (now («front_lengths» .exit)) (now (counts .exit))
+        ≡ rowPassed (job (now (coords .entry)) (now («loop_lengths» .entry)) h (optionsOf «corner_margin» «min_edge_fraction» «front_gap» «max_row_rounds» seam)) front (now (points .entry)) (now (quads .entry)) (now («front_nodes» .entry)) (now («front_lengths» .entry)) (now (counts .entry)) ⌝ }
 {
+    if counts.len() != 8 {
+        return 1;
+    }
     let options = options_of(
         corner_margin,
         min_edge_fraction,
@@ -96,7 +115,7 @@ pub extern "C" fn pave_row(
         max_row_rounds,
         seam,
     );
-    rows::row(
+    let answer = row::row(
         coords,
         loop_lengths,
         h,
@@ -106,6 +125,13 @@ pub extern "C" fn pave_row(
         quads,
         front_nodes,
         front_lengths,
-        counts,
-    )
+        counts_of(counts),
+    );
+    match answer {
+        Answer::Done(after) => {
+            put_counts(counts, after);
+            0
+        }
+        Answer::Refused(number) => number,
+    }
 }

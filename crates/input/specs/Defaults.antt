@@ -1,4 +1,4 @@
--- The default options of document 01: 2.4, 0.08, 1.2, 32, seam false. The code has them as constants of `Options` (src/lib.rt), whose values no name of antt's stands for. Definitions only.
+-- The default options of document 01: 2.4, 0.08, 1.2, 32, seam false. The function `defaults` makes them of the constants of `Options`. Definitions only.
 use mathlib.Core.Bool.{false}
 use Rattle.float.specs.Helpers.{decimal}
 use Rattle.input.specs.declared.Options.{Options}

@@ -1,4 +1,6 @@
 // A job's input: the options, and the numbers 1 to 6 of document 01. Every call tests its job by `input_number`.
+ghost use mathlib.Core.Path.{_≡_};
+ghost use Rattle.input.specs.Defaults as options;
 mod input;
 
 pub use input::input_number;
@@ -20,4 +22,17 @@ impl Options {
     pub const FRONT_GAP: f64 = 1.2;
 
     pub const MAX_ROW_ROUNDS: u64 = 32;
+}
+
+// The default options, seam false: the constants of `Options` are document 01's numbers.
+pub fn defaults() -> Options
+    ensures { λ r. ⌜ r ≡ options.defaults ⌝ }
+{
+    Options {
+        corner_margin: Options::CORNER_MARGIN,
+        min_edge_fraction: Options::MIN_EDGE,
+        front_gap: Options::FRONT_GAP,
+        max_row_rounds: Options::MAX_ROW_ROUNDS,
+        seam: false,
+    }
 }

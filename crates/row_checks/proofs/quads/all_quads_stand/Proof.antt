@@ -9,20 +9,12 @@ use lib.ListN.{length, getD}
 use Rattle.rules.specs.Checks.{every}
 use Rattle.geometry.specs.Rings.{pointAt, next}
 use Rattle.geometry.specs.Measures.{sideLength}
-<<<<<<< HEAD:crates/row_checks/proofs/quads/all_quads_stand/Proof.antt
+use Rattle.geometry.proofs.Flip.{length-flip}
 use Rattle.state.proofs.Basics.{and-false}
 use Rattle.rules.proofs.Every.{every-none, every-more, every-stops, every-end, too-near, far-enough}
 use Rattle.row_checks.proofs.Sides.{longEnough, cornersGood, next-inner, side-of, corners-of}
 use Rattle.row_checks.proofs.quads.all_quads_stand.Statement.{statement}
 use Rattle.row_checks.proofs.quads.all_quads_stand.Tie as tie
-=======
-use Rattle.geometry.proofs.Flip.{length-flip}
-use Rattle.candidate.proofs.Basics.{and-false}
-use Rattle.candidate.proofs.Every.{every-none, every-more, every-stops, every-end, too-near, far-enough}
-use Rattle.candidate.proofs.Sides.{longEnough, cornersGood, next-inner, side-of, corners-of}
-use Rattle.candidate.proofs.quads.all_quads_stand.Statement.{statement}
-use Rattle.candidate.proofs.quads.all_quads_stand.Tie as tie
->>>>>>> geo:crates/candidate/proofs/quads/all_quads_stand/Proof.antt
 
 abbrev Inv-loop : tie.InvT-loop
 Inv-loop points old row n least a₀ d₀ rung₀ i₀ a d rung i =
