@@ -1,14 +1,15 @@
 -- The loops over an outline's rings: what lies ahead once k loops, of `from` points together, are passed.
 use mathlib.Core.Path.{_≡_, refl, sym, ap, _∙_}
-use mathlib.Core.Bool.{Bool, true, false, not}
+use mathlib.Core.Bool.{Bool, true, false, not, _&&_}
 use mathlib.Core.List.{List, [], _∷_}
 use Prim.Native.Nat.{ℕ, _+_, _-_, _*_, _≤_, _<_}
 use native.Mathlib.Numerals.{add-one}
 use native.Mathlib.Omega.{arith}
 use lib.ListN.{length, take, drop, getD, drop-of-length-le, length-drop}
 use lib.Seq.{drop-cons, drop-drop, take-all}
-use lib.Ieee.{Float, binary64, add, sub, neg}
+use lib.Ieee.{Float, binary64, add, sub, neg, ofBits}
 use Rattle.float.specs.Helpers.{absolute, decimal}
+use Rattle.float.proofs.Literals.{zero-is}
 use Rattle.geometry.specs.declared.Point.{Point}
 use Rattle.geometry.specs.Rings.{Ring, ringOf}
 use Rattle.geometry.specs.Measures.{signedArea, inPolygon, shortInDomain}
@@ -139,3 +140,26 @@ module _ (coords : List Float) (loops : List ℕ) {n : ℕ} (hn : n ≡ getD loo
     pub held : (p : Point) (t u : Bool) → t ≡ inPolygon p (ringOf coords n) → t ≡ true → u ≡ inSome p (rings part holes) → not u ≡ contains (rings coords loops) p
     unfolding contains
     held p t u ht e hu = sym (ap (λ (rs : List Ring). contains rs p) behind-first ∙ rw (← ht, e, hu))
+
+-- ---- an outline of one loop is its ring, and has no hole
+and-true : (t : Bool) → t ≡ (t && true)
+and-true true = refl
+and-true false = refl
+
+module _ (coords : List Float) (loops : List ℕ) {n : ℕ} (hn : n ≡ getD loops 0 0) (one : length loops ≡ 1) where
+  ring-one : rings coords loops ≡ ringOf coords n ∷ []
+  unfolding rings
+  ring-one =
+      let no-more : length loops ≤ 1 = omega arith in
+      outline-first coords n loops (omega arith) hn ∙ ap (λ (ns : List ℕ). ringOf coords n ∷ rings (drop (n * 2) coords) ns) (drop-of-length-le loops no-more)
+
+  pub room-one : sumOf loops * 2 ≤ length coords → n * 2 ≤ length coords
+  room-one = room-first coords loops hn (λ none. omega arith)
+
+  pub area-one : (a : Float) → a ≡ signedArea (ringOf coords n) → sub binary64 a (neg (ofBits binary64 0)) ≡ domainArea (rings coords loops)
+  unfolding domainArea holesArea
+  area-one a h = sym (ap domainArea ring-one ∙ rw (h, zero-is))
+
+  pub contains-one : (p : Point) (t : Bool) → t ≡ inPolygon p (ringOf coords n) → t ≡ contains (rings coords loops) p
+  unfolding contains inSome
+  contains-one p t h = h ∙ and-true (inPolygon p (ringOf coords n)) ∙ sym (ap (λ (rs : List Ring). contains rs p) ring-one)

@@ -52,16 +52,23 @@ fn holes_area(coords: &[f64], loops: &[u16]) -> f64
     sum
 }
 
-// The area within the outer loop and outside the holes: positive where the outer loop is counter-clockwise.
+// The area within the outer loop and outside the holes: positive where the outer loop is counter-clockwise. An outline of one
+// loop is its ring. The lengths are handed on by a name of their own: so they come in registers, and a caller that knows that
+// there is one loop has this way alone compiled into it.
 pub fn domain_area(coords: &[f64], loops: &[u16]) -> f64
     requires { ⌜ domain.sumOf (now loops) * 2 ≤ length (now coords) ⌝ }
     ensures { λ r. ⌜ r ≡ domain.domainArea (domain.rings (now (coords .entry)) (now (loops .entry))) ⌝ }
 {
+    if loops.len() == 1 {
+        let only = wide(loops[0]);
+        return signed_area(coords, only) - -0.0;
+    }
     if loops.len() == 0 {
         return 0.0;
     }
     let n = wide(loops[0]);
-    signed_area(coords, n) - holes_area(rest(coords, n), holes(loops))
+    let lengths = loops;
+    signed_area(coords, n) - holes_area(rest(coords, n), holes(lengths))
 }
 
 // Whether `p` is within one of some rings.
@@ -82,17 +89,22 @@ fn in_some(coords: &[f64], loops: &[u16], p: Point) -> bool
     false
 }
 
-// Whether `p` is within the outer loop and outside every hole.
+// Whether `p` is within the outer loop and outside every hole, with the same two ways.
 pub fn contains(coords: &[f64], loops: &[u16], p: Point) -> bool
     requires { ⌜ domain.sumOf (now loops) * 2 ≤ length (now coords) ⌝ }
     ensures { λ r. ⌜ r ≡ domain.contains (domain.rings (now (coords .entry)) (now (loops .entry))) p ⌝ }
 {
+    if loops.len() == 1 {
+        let only = wide(loops[0]);
+        return in_polygon(p, coords, only);
+    }
     if loops.len() == 0 {
         return false;
     }
     let n = wide(loops[0]);
+    let lengths = loops;
     if in_polygon(p, coords, n) {
-        return !in_some(rest(coords, n), holes(loops), p);
+        return !in_some(rest(coords, n), holes(lengths), p);
     }
     false
 }

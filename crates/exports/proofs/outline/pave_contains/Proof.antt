@@ -1,57 +1,42 @@
--- `exports::outline::pave_contains` meets its contract: an outline of one loop is its ring; otherwise the test before the call decides.
-use mathlib.Core.Path.{refl}
+-- `exports::outline::pave_contains` meets its contract: the lengths of one loop, taken as a part, are the lengths.
+use mathlib.Core.Path.{ap, _∙_}
 use borrow.Author.Needs.{needs}
 use Rattle.exports.specs.Outline.{containsOrNot}
-use Rattle.exports.proofs.Loops.{contains-one, fits-one, room, short-one}
+use Rattle.exports.proofs.Loops.{only-one}
 use Rattle.exports.proofs.outline.pave_contains.Statement.{statement}
 use Rattle.exports.proofs.outline.pave_contains.Tie as tie
 
-shared-slice-read-wide : tie.Need-shared-slice-read-wide
-shared-slice-read-wide c = search needs
+sub-contains-or-not : tie.Need-sub-contains-or-not
+sub-contains-or-not c = search needs
 
-wide-requires : tie.Need-wide-requires
-wide-requires c κs = search needs
+part-contains-or-not-start : tie.Need-part-contains-or-not-start
+part-contains-or-not-start c = search needs
+
+part-contains-or-not-end : tie.Need-part-contains-or-not-end
+part-contains-or-not-end c = search needs
+
+contains-or-not-requires : tie.Need-contains-or-not-requires
+contains-or-not-requires c κs = search needs
 
 returns : tie.Need-returns
-unfolding containsOrNot
 returns c =
-    let w = c .before in
-    rw (short-one _ _ (w .before .before .if1 .taken) (w .wide .ensures) (c .if2 .taken)) refl
+    let one : tie.Then1 = search in
+    c .contains-or-not .ensures ∙ ap (containsOrNot _ _) (only-one _ (one .if1 .taken))
 
-in-polygon-requires : tie.Need-in-polygon-requires
-in-polygon-requires c κs = search needs
+contains-or-not-requires-2 : tie.Need-contains-or-not-requires-2
+contains-or-not-requires-2 c κs = search needs
 
 returns-2 : tie.Need-returns-2
-unfolding containsOrNot
-returns-2 c =
-    let w = c .before .before in
-    let only = w .before .before .if1 .taken in
-    rw (fits-one _ _ only (w .wide .ensures) (c .before .if2 .left)) (contains-one _ _ only (w .wide .ensures) _ _ (c .in-polygon .ensures))
-
-loops-fit-requires : tie.Need-loops-fit-requires
-loops-fit-requires c κs = search needs
-
-contains-requires : tie.Need-contains-requires
-contains-requires c κs = room _ _ _ (c .before .loops-fit .ensures) (c .if3 .taken)
-
-returns-3 : tie.Need-returns-3
-unfolding containsOrNot
-returns-3 c = rw (← c .before .before .loops-fit .ensures, c .before .if3 .taken) (c .contains .ensures)
-
-returns-4 : tie.Need-returns-4
-unfolding containsOrNot
-returns-4 c = rw (← c .before .loops-fit .ensures, c .if3 .left) refl
+returns-2 c = search needs
 
 pub pave-contains-spec : {M : Type 1} → statement M
 pave-contains-spec =
     tie.close
     (tie.spec
-    shared-slice-read-wide
-    wide-requires
+    sub-contains-or-not
+    part-contains-or-not-start
+    part-contains-or-not-end
+    contains-or-not-requires
     returns
-    in-polygon-requires
-    returns-2
-    loops-fit-requires
-    contains-requires
-    returns-3
-    returns-4)
+    contains-or-not-requires-2
+    returns-2)

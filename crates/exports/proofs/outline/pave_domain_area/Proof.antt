@@ -1,57 +1,42 @@
--- `exports::outline::pave_domain_area` meets its contract: an outline of one loop is its ring; otherwise the test before the call decides.
+-- `exports::outline::pave_domain_area` meets its contract: the lengths of one loop, taken as a part, are the lengths.
+use mathlib.Core.Path.{ap, _∙_}
 use borrow.Author.Needs.{needs}
 use Rattle.exports.specs.Outline.{areaOr}
-use Rattle.exports.proofs.Choices.{nan-is}
-use Rattle.exports.proofs.Loops.{area-one, fits-one, room, short-one}
+use Rattle.exports.proofs.Loops.{only-one}
 use Rattle.exports.proofs.outline.pave_domain_area.Statement.{statement}
 use Rattle.exports.proofs.outline.pave_domain_area.Tie as tie
 
-shared-slice-read-wide : tie.Need-shared-slice-read-wide
-shared-slice-read-wide c = search needs
+sub-area-or-nan : tie.Need-sub-area-or-nan
+sub-area-or-nan c = search needs
 
-wide-requires : tie.Need-wide-requires
-wide-requires c κs = search needs
+part-area-or-nan-start : tie.Need-part-area-or-nan-start
+part-area-or-nan-start c = search needs
+
+part-area-or-nan-end : tie.Need-part-area-or-nan-end
+part-area-or-nan-end c = search needs
+
+area-or-nan-requires : tie.Need-area-or-nan-requires
+area-or-nan-requires c κs = search needs
 
 returns : tie.Need-returns
-unfolding areaOr
 returns c =
-    let w = c .before in
-    rw (short-one _ _ (w .before .before .if1 .taken) (w .wide .ensures) (c .if2 .taken)) nan-is
+    let one : tie.Then1 = search in
+    c .area-or-nan .ensures ∙ ap (areaOr _) (only-one _ (one .if1 .taken))
 
-signed-area-requires : tie.Need-signed-area-requires
-signed-area-requires c κs = search needs
+area-or-nan-requires-2 : tie.Need-area-or-nan-requires-2
+area-or-nan-requires-2 c κs = search needs
 
 returns-2 : tie.Need-returns-2
-unfolding areaOr
-returns-2 c =
-    let w = c .before .before in
-    let only = w .before .before .if1 .taken in
-    rw (fits-one _ _ only (w .wide .ensures) (c .before .if2 .left)) (area-one _ _ only (w .wide .ensures) _ (c .signed-area .ensures))
-
-loops-fit-requires : tie.Need-loops-fit-requires
-loops-fit-requires c κs = search needs
-
-domain-area-requires : tie.Need-domain-area-requires
-domain-area-requires c κs = room _ _ _ (c .before .loops-fit .ensures) (c .if3 .taken)
-
-returns-3 : tie.Need-returns-3
-unfolding areaOr
-returns-3 c = rw (← c .before .before .loops-fit .ensures, c .before .if3 .taken) (c .domain-area .ensures)
-
-returns-4 : tie.Need-returns-4
-unfolding areaOr
-returns-4 c = rw (← c .before .loops-fit .ensures, c .if3 .left) nan-is
+returns-2 c = search needs
 
 pub pave-domain-area-spec : {M : Type 1} → statement M
 pave-domain-area-spec =
     tie.close
     (tie.spec
-    shared-slice-read-wide
-    wide-requires
+    sub-area-or-nan
+    part-area-or-nan-start
+    part-area-or-nan-end
+    area-or-nan-requires
     returns
-    signed-area-requires
-    returns-2
-    loops-fit-requires
-    domain-area-requires
-    returns-3
-    returns-4)
+    area-or-nan-requires-2
+    returns-2)

@@ -1,14 +1,11 @@
+-- `geometry::domain::domain_area` meets its contract: an outline of one loop is its ring; otherwise the holes' areas are taken off.
 use mathlib.Core.Path.{ap, sym, _∙_}
-use Rattle.geometry.specs.Domain.{domainArea}
 use Rattle.float.proofs.Literals.{zero-is}
-use Rattle.geometry.proofs.Outline.{area-of, no-loops, room-first, room-holes}
+use Rattle.geometry.specs.Domain.{domainArea}
+use Rattle.geometry.proofs.Outline.{area-of, area-one, no-loops, room-first, room-holes, room-one}
 use borrow.Author.Needs.{needs}
 use Rattle.geometry.proofs.domain.domain_area.Statement.{statement}
 use Rattle.geometry.proofs.domain.domain_area.Tie as tie
-
-returns : tie.Need-returns
-unfolding domainArea
-returns c = zero-is ∙ sym (ap domainArea (no-loops _ _ (c .if1 .taken)))
 
 shared-slice-read-wide : tie.Need-shared-slice-read-wide
 shared-slice-read-wide c = search needs
@@ -17,36 +14,81 @@ wide-requires : tie.Need-wide-requires
 wide-requires c κs = search needs
 
 signed-area-requires : tie.Need-signed-area-requires
-signed-area-requires c κs = let s : tie.Start = search in room-first (s .args .coords .now) (s .args .loops .now) (c .wide .ensures) (c .before .before .if1 .left) (s .pre)
+signed-area-requires c κs =
+    let entry : tie.Start = search in
+    let a = entry .args in
+    let only : tie.After-wide = search in
+    let one : tie.Then1 = search in
+    room-one (a .coords .now) (a .loops .now) (c .wide .ensures) (one .if1 .taken) (entry .pre)
+
+returns : tie.Need-returns
+returns c =
+    let entry : tie.Start = search in
+    let a = entry .args in
+    let only : tie.After-wide = search in
+    let one : tie.Then1 = search in
+    area-one (a .coords .now) (a .loops .now) (only .wide .ensures) (one .if1 .taken) _ (c .signed-area .ensures)
+
+returns-2 : tie.Need-returns-2
+unfolding domainArea
+returns-2 c = zero-is ∙ sym (ap domainArea (no-loops _ _ (c .if2 .taken)))
+
+shared-slice-read-wide-2 : tie.Need-shared-slice-read-wide-2
+shared-slice-read-wide-2 c = search needs
+
+wide-requires-2 : tie.Need-wide-requires-2
+wide-requires-2 c κs = search needs
+
+signed-area-requires-2 : tie.Need-signed-area-requires-2
+signed-area-requires-2 c κs =
+    let first : tie.After-wide2 = search in
+    let some : tie.Else2 = search in
+    let entry : tie.Start = search in
+    let a = entry .args in
+    room-first (a .coords .now) (a .loops .now) (first .wide2 .ensures) (some .if2 .left) (entry .pre)
 
 rest-requires : tie.Need-rest-requires
-rest-requires c κs = let d = c .before in let s = d .before .before .before .before .before in room-first (s .args .coords .now) (s .args .loops .now) (d .wide .ensures) (d .before .before .if1 .left) (s .pre)
+rest-requires c κs =
+    let first : tie.After-wide2 = search in
+    let some : tie.Else2 = search in
+    let entry : tie.Start = search in
+    let a = entry .args in
+    room-first (a .coords .now) (a .loops .now) (first .wide2 .ensures) (some .if2 .left) (entry .pre)
 
 holes-requires : tie.Need-holes-requires
 holes-requires c κs = search needs
 
 holes-area-requires : tie.Need-holes-area-requires
 holes-area-requires c κs =
-    let d = c .before .before .before in
-    let s = d .before .before .before .before .before in
-    room-holes (s .args .coords .now) (s .args .loops .now) (d .wide .ensures) (d .before .before .if1 .left) (s .pre) (c .before .rest .ensures) (c .holes .ensures)
+    let first : tie.After-wide2 = search in
+    let some : tie.Else2 = search in
+    let entry : tie.Start = search in
+    let a = entry .args in
+    room-holes (a .coords .now) (a .loops .now) (first .wide2 .ensures) (some .if2 .left) (entry .pre) (c .before .rest .ensures) (c .holes .ensures)
 
-returns-2 : tie.Need-returns-2
-returns-2 c =
-    let at-signed-area : tie.After-signed-area = search in
-    let d = (at-signed-area .before) in
-    let s = d .before .before .before .before .before in
-    area-of (s .args .coords .now) (s .args .loops .now) (d .wide .ensures) (d .before .before .if1 .left) (s .pre) (c .before .before .rest .ensures) (c .before .holes .ensures) _ _ (at-signed-area .signed-area .ensures) (c .holes-area .ensures)
+returns-3 : tie.Need-returns-3
+returns-3 c =
+    let behind : tie.After-holes = search in
+    let outer : tie.After-signed-area2 = search in
+    let first : tie.After-wide2 = search in
+    let some : tie.Else2 = search in
+    let entry : tie.Start = search in
+    let a = entry .args in
+    area-of (a .coords .now) (a .loops .now) (first .wide2 .ensures) (some .if2 .left) (entry .pre) (behind .before .rest .ensures) (behind .holes .ensures) _ _ (outer .signed-area2 .ensures) (c .holes-area .ensures)
 
 pub domain-area-spec : {M : Type 1} → statement M
 domain-area-spec =
     tie.close
     (tie.spec
-    returns
     shared-slice-read-wide
     wide-requires
     signed-area-requires
+    returns
+    returns-2
+    shared-slice-read-wide-2
+    wide-requires-2
+    signed-area-requires-2
     rest-requires
     holes-requires
     holes-area-requires
-    returns-2)
+    returns-3)
