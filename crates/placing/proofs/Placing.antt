@@ -10,7 +10,7 @@ use lib.ListN.{length, set, length-append}
 use lib.Dec.{eqb, ltb}
 use lib.Seq.{sets}
 use lib.Ieee.{Float, le}
-use borrow.Author.Tests.{lt-ltb, le-ltb, eq-eqb, ne-eqb, ltb-true, ltb-false, eqb-true, eqb-false}
+use borrow.Author.Tests.{lt-ltb, le-ltb, ltb-true, ltb-false, eqb-true, eqb-false}
 use Rattle.float.specs.Helpers.{decimal}
 use Rattle.geometry.specs.declared.Point.{Point}
 use Rattle.geometry.specs.Rings.{Ring, next}

@@ -1,5 +1,5 @@
 -- A turned loop needs no second copy: its ring is read backwards. Definitions only.
-use Prim.Native.Nat.{ℕ, _-_}
+use Prim.Native.Nat.{_-_}
 use mathlib.Core.Bool.{Bool, cond}
 use Rattle.geometry.specs.Rings.{Ring}
 

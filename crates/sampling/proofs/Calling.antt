@@ -1,7 +1,7 @@
 -- The call's one equation, in each of its three ways: refused by the input, refused by a loop, and given.
 use mathlib.Core.Path.{_≡_, sym, ap, _∙_}
 use mathlib.Core.Bool.{cond}
-use mathlib.Core.List.{List, [], _∷_, _++_, map}
+use mathlib.Core.List.{List, _++_, map}
 use Prim.Native.Nat.{ℕ, _-_, _*_, _/_}
 use native.Mathlib.Omega.{arith}
 use lib.ListN.{length, take, replicate, length-map}
@@ -12,7 +12,7 @@ use Rattle.float.specs.Helpers.{decimal}
 use Rattle.state.specs.declared.Counts.{Counts}
 use Rattle.state.specs.declared.Answer.the-variants.{Done, Refused}
 use Rattle.state.specs.Limits.{frontLimit, frontNodeLimit, pointsLength, quadsLength}
-use Rattle.state.specs.State.{State, Held, Lengths, noCounts, zeros, padded, joined, countsOf, written}
+use Rattle.state.specs.State.{State, Lengths, noCounts, zeros, padded, joined, countsOf, written}
 use Rattle.state.specs.Outcome.{Outcome, refused, gives}
 use Rattle.state.specs.Call.{lengthsOf, held, left, jobLeft}
 use Rattle.state.proofs.Stores.{front-padded}

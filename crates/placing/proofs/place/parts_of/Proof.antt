@@ -1,7 +1,6 @@
 -- `placing::place::parts_of` meets its contract.
-use native.Mathlib.Omega.{arith}
 use native.Mathlib.Nat.{add-zero}
-use mathlib.Core.Path.{refl, sym}
+use mathlib.Core.Path.{sym}
 use borrow.Author.Tests.{eq-eqb, ne-eqb}
 use borrow.Author.Needs.{needs}
 use Rattle.placing.proofs.place.parts_of.Statement.{statement}

@@ -1,11 +1,11 @@
 -- `placing::place::place` meets its contract. The invariant: the nodes of the first i sides are written.
 use mathlib.Core.Path.{_≡_, refl, _∙_}
-use Prim.Native.Nat.{_≤_, _<_, _+_, _-_, _*_}
+use Prim.Native.Nat.{_≤_, _+_, _-_, _*_}
 use native.Mathlib.Omega.{arith}
 use lib.ListN.{length}
 use lib.Seq.{sets}
-use borrow.Author.Needs.{needs, scaled-fits}
-use Rattle.geometry.specs.Rings.{ringOf}
+use borrow.Author.Needs.{scaled-fits}
+use Rattle.geometry.specs.Rings.{Ring, ringOf}
 use Rattle.planning.specs.Plan as plans
 use Rattle.placing.specs.Placed as laid
 use Rattle.planning.specs.Backwards.{turnedIf}
@@ -51,25 +51,38 @@ add-place-side c =
     let entry : tie.Start Inv-loop μ-loop = search in
     omega (arith, entry .pre .1 .1 .1 .1 .0, at-loop .loop .inv .4)
 
+abbrev start-of : tie.In-loop Inv-loop μ-loop → tie.Start Inv-loop μ-loop
+start-of c = search
+
+abbrev ring-of : tie.Start Inv-loop μ-loop → Ring
+ring-of start = turnedIf (start .args .back) (ringOf (start .args .pts .now) (start .args .n))
+
+-- there is room for the next side, and no more of it is placed than planned
+fits : (c : tie.In-loop Inv-loop μ-loop)
+    → let start = start-of c in
+    let l = c .before .loop in
+    (l .placed + 1 + plans.parts (start .args .h) (start .args .corner-margin) (ring-of start) (l .i) ≤ plans.planned (start .args .h) (start .args .corner-margin) (ring-of start))
+    × (laid.placedOn (start .args .h) (start .args .corner-margin) (ring-of start) (l .i) ≤ plans.parts (start .args .h) (start .args .corner-margin) (ring-of start) (l .i))
+fits c =
+    let start = start-of c in
+    let l = c .before .loop in
+    (room (start .args .h) (start .args .corner-margin) (ring-of start) (l .i) (l .placed) (c .loop-test .taken) (l .inv .1), placed-few (start .args .h) (start .args .corner-margin) (ring-of start) (l .i))
+
 place-side-requires : tie.Need-place-side-requires Inv-loop μ-loop
 place-side-requires c κs =
-    let at-loop-test = c .before .before .before in
-    let at-loop : tie.At-loop Inv-loop μ-loop = search in
-    let start : tie.Start Inv-loop μ-loop = search in
-    let loop-test = at-loop-test .loop-test in
-    let r = turnedIf (start .args .back) (ringOf (start .args .pts .now) (start .args .n)) in
-    let l = at-loop .loop in
-    let fits = room (start .args .h) (start .args .corner-margin) r (l .i) (l .placed) (loop-test .taken) (l .inv .1) in
-    ((start .pre .0 .0, loop-test .taken, start .pre .1 .0 (l .i) (loop-test .taken), start .pre .1 .1 .0 (l .i) (loop-test .taken)), (start .pre .1 .1 .1 .0 (l .i) (loop-test .taken), (omega (arith, fits, start .pre .1 .1 .1 .1 .0), omega (arith, start .pre .1 .1 .1 .1 .1, l .inv .3))))
+    let at-loop-test : tie.In-loop Inv-loop μ-loop = search in
+    let start = start-of at-loop-test in
+    let more = at-loop-test .loop-test .taken in
+    let l = at-loop-test .before .loop in (
+      (start .pre .0 .0, more, start .pre .1 .0 (l .i) more, start .pre .1 .1 .0 (l .i) more),
+      (start .pre .1 .1 .1 .0 (l .i) more, (omega (arith, fits at-loop-test .0, start .pre .1 .1 .1 .1 .0), omega (arith, start .pre .1 .1 .1 .1 .1, l .inv .3))),
+    )
 
 add-placed : tie.Need-add-placed Inv-loop μ-loop
 add-placed c =
     let at-loop-test : tie.In-loop Inv-loop μ-loop = search in
-    let at-loop : tie.At-loop Inv-loop μ-loop = search in
-    let start : tie.Start Inv-loop μ-loop = search in
-    let r = turnedIf (start .args .back) (ringOf (start .args .pts .now) (start .args .n)) in
-    let l = at-loop .loop in
-    omega (arith, room (start .args .h) (start .args .corner-margin) r (l .i) (l .placed) (at-loop-test .loop-test .taken) (l .inv .1), placed-few (start .args .h) (start .args .corner-margin) r (l .i), c .before .before .place-side .ensures .0, start .pre .1 .1 .1 .1 .0)
+    let f = fits at-loop-test in
+    omega (arith, f .0, f .1, c .before .before .place-side .ensures .0, start-of at-loop-test .pre .1 .1 .1 .1 .0)
 
 add-i : tie.Need-add-i Inv-loop μ-loop
 add-i c = omega arith
@@ -80,16 +93,15 @@ loop-less c = omega arith
 loop-again : tie.Need-loop-again Inv-loop μ-loop
 loop-again c =
     let at-loop-test : tie.In-loop Inv-loop μ-loop = search in
-    let at-loop : tie.At-loop Inv-loop μ-loop = search in
-    let start : tie.Start Inv-loop μ-loop = search in
+    let start = start-of at-loop-test in
     let place-side = c .before .before .place-side in
-    let r = turnedIf (start .args .back) (ringOf (start .args .pts .now) (start .args .n)) in
-    let l = at-loop .loop in (
+    let l = at-loop-test .before .loop in
+    let f = fits at-loop-test in (
       omega arith,
-      count-step (start .args .h) (start .args .corner-margin) r (l .i) _ _ (l .inv .1) (place-side .ensures .0),
-      placed-step (start .args .h) (start .args .corner-margin) r (l .i) (start .args .at) (l .placed) _ _ _ (l .inv .1) (l .inv .2) (place-side .ensures .1),
+      count-step (start .args .h) (start .args .corner-margin) (ring-of start) (l .i) _ _ (l .inv .1) (place-side .ensures .0),
+      placed-step (start .args .h) (start .args .corner-margin) (ring-of start) (l .i) (start .args .at) (l .placed) _ _ _ (l .inv .1) (l .inv .2) (place-side .ensures .1),
       place-side .kept .1 .1 .1 .1 .1 .1 .1 .1 .1 .0 ∙ l .inv .3,
-      omega (arith, room (start .args .h) (start .args .corner-margin) r (l .i) (l .placed) (at-loop-test .loop-test .taken) (l .inv .1), placed-few (start .args .h) (start .args .corner-margin) r (l .i), place-side .ensures .0),
+      omega (arith, f .0, f .1, place-side .ensures .0),
     )
 
 same-length : tie.Need-same-length Inv-loop μ-loop

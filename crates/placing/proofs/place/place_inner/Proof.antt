@@ -4,7 +4,6 @@ use Prim.Native.Nat.{_≤_, _-_, _*_}
 use native.Mathlib.Omega.{arith}
 use lib.ListN as lists
 use lib.Seq.{sets}
-use borrow.Author.Needs.{needs}
 use Rattle.placing.specs.Placing.{betweens}
 use Rattle.placing.proofs.Placing.{between-step}
 use Rattle.placing.proofs.place.place_inner.Statement.{statement}

@@ -1,8 +1,7 @@
 -- `placing::place::place_side` meets its contract: a side that is too short, one that gets no inner points, and any other.
-use mathlib.Core.Path.{_≡_, _∙_, sym, ap}
-use Prim.Native.Nat.{ℕ, _+_, _≤_, _*_}
+use mathlib.Core.Path.{_≡_}
+use Prim.Native.Nat.{ℕ}
 use native.Mathlib.Omega.{arith}
-use lib.ListN.{length}
 use Rattle.geometry.specs.Rings.{Ring, ringOf}
 use Rattle.planning.specs.Plan as plans
 use Rattle.planning.specs.Backwards.{turnedIf}

@@ -1,11 +1,10 @@
 -- `planning::keep::keep_points` meets its contract. The invariant: the buffer begins with the points that the definition keeps of the first k.
 use Rattle.planning.proofs.Keeping.{keep-step}
-use mathlib.Core.Path.{_≡_, refl, ap, _∙_, sym}
+use mathlib.Core.Path.{_≡_, refl, _∙_}
 use Prim.Native.Nat.{_≤_, _-_, _*_}
 use native.Mathlib.Omega.{arith}
 use lib.ListN.{length}
-use lib.Seq.{sets, length-sets}
-use borrow.Author.Needs.{needs}
+use lib.Seq.{sets}
 use Rattle.geometry.specs.Rings.{ringOf}
 use Rattle.planning.specs.Ring as rings
 use Rattle.planning.proofs.keep.keep_points.Statement.{statement}

@@ -1,8 +1,4 @@
 -- `planning::keep::unclosed` meets its contract. The invariant: the points left give what all give.
-use Rattle.planning.specs.Ring.{close}
-use mathlib.Core.Bool.{Bool, cond}
-use Prim.Native.Nat.{ℕ}
-use mathlib.Core.Path.{ap}
 use mathlib.Core.Path.{_≡_, refl, _∙_, sym}
 use Prim.Native.Nat.{_≤_}
 use native.Mathlib.Omega.{arith}

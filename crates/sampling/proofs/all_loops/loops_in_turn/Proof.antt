@@ -1,6 +1,6 @@
 -- `sampling::all_loops::loops_in_turn` meets its contract. The invariant: k loops are sampled and written, and the definition goes on with those to come.
 use mathlib.Core.Path.{_≡_, refl, ap, _∙_}
-use Prim.Native.Nat.{_+_, _*_, _≤_, _<_, _-_}
+use Prim.Native.Nat.{_+_, _*_, _≤_, _-_}
 use native.Mathlib.Omega.{arith}
 use lib.ListN.{length, set, drop, length-set, length-drop}
 use borrow.Author.Needs.{needs, scaled-fits}

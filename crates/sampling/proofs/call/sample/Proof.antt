@@ -1,5 +1,5 @@
 -- `sampling::call::sample` meets its contract: every place is written, so what the buffers held is not seen.
-use mathlib.Core.Path.{_≡_, refl, _∙_, sym, ap}
+use mathlib.Core.Path.{refl, _∙_, sym, ap}
 use Prim.Native.Nat.{_≤_}
 use native.Mathlib.Omega.{arith}
 use lib.ListN.{length}
