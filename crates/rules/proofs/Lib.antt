@@ -2,6 +2,7 @@ pub mod Lists
 pub mod Every
 pub mod RowSides
 pub mod Invariant
+pub mod Allowed
 pub mod RowGood
 pub mod Closes
 pub mod ClosingGood

@@ -1,43 +1,47 @@
 -- Rows, passes and several passes: the invariant is kept, and points and quads are only added. A run of few passes is the first part of a run of more.
 use mathlib.Core.Path.{_≡_, refl, ap, sym, _∙_, subst}
-use mathlib.Core.Bool.{Bool, true, false, cond, not, _&&_, _||_}
+use mathlib.Core.Bool.{Bool, true, false, cond, _&&_}
 use mathlib.Core.List.{List, [], _∷_, _++_, append-nil, append-assoc}
-use Prim.Native.Nat.{ℕ, zero, suc, _+_, _*_, _≤_, _<_}
+use Prim.Native.Nat.{ℕ, zero, suc, _+_, _*_, _/_, _≤_, _<_}
 use native.Mathlib.Omega.{arith}
-use lib.Dec.{eqb, leb, ltb}
-use lib.ListN.{length, length-append}
+use lib.Dec.{eqb, leb}
+use lib.ListN.{length, length-append, length-set}
 use lib.Ieee.{Float}
-use borrow.Author.Tests.{eqb-true, leb-true, not-false}
+use borrow.Author.Tests.{eqb-true, leb-true, ltb-false, not-false}
 use Rattle.geometry.specs.Rings.{Ring}
-use Rattle.state.specs.State.{State, Quad, nodes}
+use Rattle.state.specs.Limits.{pointLimit, quadLimit}
+use Rattle.state.specs.State.{State, Quad, nodes, numbered}
 use Rattle.input.specs.Job.{Job}
-use Rattle.state.specs.Outcome.{Outcome, refused, gives, firstOf, test}
+use Rattle.state.specs.Outcome.{Outcome, refused, gives}
 use Rattle.rules.specs.declared.Projection.{Projection}
 use Rattle.rules.specs.declared.Projection.the-variants.{At, Nothing}
 use Rattle.rules.specs.Projecting.{projectionNumber, projectionValues}
 use Rattle.rules.specs.Simple.{isSimple}
-use Rattle.rules.specs.Row.{every, projection, newPoints, old, new, newRing, newQuads, projects, inside, offBoundary, longEnough, clearOfFront, cornersPassAt, rowStands, committed, nextRow}
+use Rattle.rules.specs.Row.{every, front, projection, newPoints, old, new, newRing, newQuads, projects, inside, offBoundary, longEnough, clearOfFront, cornersPassAt, rowStands, committed, nextRow}
 use Rattle.rules.specs.Passes.{passOrder, rowsInOrder, begun, onePass, somePasses}
+use Rattle.rules.specs.Demands.{OneForEach}
 use Rattle.rules.proofs.Lists.{and-left, and-right, every-at}
+use Rattle.state.proofs.Basics.{or-false}
+use Rattle.state.proofs.Growing.{length-numbered}
+use Rattle.state.proofs.Fitting.{set-as-long}
 use Rattle.state.proofs.Outcomes.{gives-same, not-both, first-none, numbered-gives}
 use Rattle.rules.proofs.RowSides.{row-length}
-use Rattle.rules.proofs.Invariant.{Good}
 use Rattle.rules.proofs.RowGood.{row-good}
-
-abbrev pub GoodState : List (List ℕ) → State → Type 0
-GoodState loops s = Good loops (s .points) (s .quads) (s .fronts)
+use Rattle.rules.proofs.Allowed.{Allowed, Stands, short-set}
 
 -- what a step of the rows does to a state
 pub record Advances (s t : State) : Type 0 where
-  pub keeps : (loops : List (List ℕ)) → GoodState loops s → GoodState loops t
+  pub keeps : (loops : List (List ℕ)) → Stands loops s → Stands loops t
   pub laidAll : s .laid ≡ length (s .quads) → t .laid ≡ length (t .quads)
   pub morePoints : List Float
   pub pointsAre : t .points ≡ s .points ++ morePoints
   pub moreQuads : List Quad
   pub quadsAre : t .quads ≡ s .quads ++ moreQuads
+  -- a quad for each point, which has two coordinates
+  pub oneForEach : length morePoints ≡ length moreQuads * 2
 
 pub stays : (s : State) → Advances s s
-stays s = record { keeps = λ loops g. g; laidAll = λ e. e; morePoints = []; pointsAre = sym (append-nil (s .points)); moreQuads = []; quadsAre = sym (append-nil (s .quads)) }
+stays s = record { keeps = λ loops g. g; laidAll = λ e. e; morePoints = []; pointsAre = sym (append-nil (s .points)); moreQuads = []; quadsAre = sym (append-nil (s .quads)); oneForEach = refl }
 
 pub goes-on : {s t u : State} → Advances s t → Advances t u → Advances s u
 goes-on {s} {t} {u} x y = record {
@@ -47,6 +51,7 @@ goes-on {s} {t} {u} x y = record {
   pointsAre = y .pointsAre ∙ ap (λ p. p ++ y .morePoints) (x .pointsAre) ∙ append-assoc (s .points) (x .morePoints) (y .morePoints);
   moreQuads = x .moreQuads ++ y .moreQuads;
   quadsAre = y .quadsAre ∙ ap (λ q. q ++ y .moreQuads) (x .quadsAre) ∙ append-assoc (s .quads) (x .moreQuads) (y .moreQuads);
+  oneForEach = omega (arith, length-append (x .morePoints) (y .morePoints), length-append (x .moreQuads) (y .moreQuads), x .oneForEach, y .oneForEach);
 }
 
 -- ---- a row
@@ -62,7 +67,7 @@ new-length r h (suc k) p =
     let e = new-length r h k (λ i l. p i (omega arith)) in
     omega (arith, length-append (newPoints r h k) (projectionValues (projection r h k)), values-length (projection r h k) (p k (omega arith)))
 
-module _ (j : Job) (s : State) (li : ℕ) (stands : rowStands j s li ≡ true) where
+module _ (j : Job) (s : State) (li : ℕ) (stands : rowStands j s li ≡ true) (pointRoom : nodes s + length (old j s li) ≤ pointLimit) (quadRoom : length (s .quads) + length (old j s li) ≤ quadLimit) where
   abbrev n : ℕ
   n = length (old j s li)
 
@@ -84,24 +89,65 @@ module _ (j : Job) (s : State) (li : ℕ) (stands : rowStands j s li ≡ true) w
   long : length (new j s li) ≡ n * 2
   long = new-length _ (j .h) n (λ i l. every-at (projects j s li) n i (and-right (leb 6 n) _ upTo2) l)
 
+  quads-after : length (s .quads ++ newQuads j s li) ≡ length (s .quads) + n
+  quads-after = length-append (s .quads) (newQuads j s li) ∙ ap (λ k. length (s .quads) + k) (row-length (old j s li) (nodes s) n)
+
+  points-after : length (s .points ++ new j s li) / 2 ≡ nodes s + n
+  points-after = omega (arith, length-append (s .points) (new j s li), long)
+
+  new-front : length (numbered (nodes s) n) ≡ n
+  new-front = length-numbered (nodes s) n
+
+  row-allowed : Allowed s → Allowed (committed j s li)
+  unfolding committed
+  row-allowed a = record {
+    points = omega (arith, points-after);
+    quads = omega (arith, quads-after);
+    fronts = rw (length-set (s .fronts) li (numbered (nodes s) n)) (a .fronts);
+    frontNodes = rw (set-as-long (s .fronts) li (numbered (nodes s) n) new-front) (a .frontNodes);
+    three = short-set (s .fronts) li (numbered (nodes s) n) (omega (arith, new-front, six)) (a .three);
+    sums = omega (arith, quads-after, a .sums);
+    laid = omega (arith, quads-after);
+    rounds = omega (arith, a .rounds, six);
+  }
+
   commits : Advances s (committed j s li)
   unfolding committed
   commits = record {
-    keeps = λ loops g. row-good loops (s .points) (s .quads) (s .fronts) li g (new j s li) six long (λ i l. every-at (cornersPassAt j s li) n i cornersHold l);
-    laidAll = λ e. sym (length-append (s .quads) (newQuads j s li) ∙ ap (λ k. length (s .quads) + k) (row-length (old j s li) (nodes s) n));
+    keeps = λ loops g. record {
+      good = row-good loops (s .points) (s .quads) (s .fronts) li (g .good) (new j s li) six long (λ i l. every-at (cornersPassAt j s li) n i cornersHold l);
+      allowed = row-allowed (g .allowed);
+    };
+    laidAll = λ e. sym quads-after;
     morePoints = new j s li;
     pointsAre = refl;
     moreQuads = newQuads j s li;
     quadsAre = refl;
+    oneForEach = omega (arith, long, row-length (old j s li) (nodes s) n);
   }
 
-pub row-advances : (j : Job) (s : State) (li : ℕ) (t : State) → nextRow j s li ≡ gives t → Advances s t
-unfolding nextRow
-row-advances j s li t e =
-    let m = length (old j s li) in
-    let all = numbered-gives (firstOf (test 22 (not (rowStands j s li)) ∷ test 21 (ltb 4096 (nodes s + m) || ltb 4096 (length (s .quads) + m)) ∷ [])) (committed j s li) t e in
-    let stands = not-false (rowStands j s li) (first-none 21 (not (rowStands j s li)) _ (all .0) .0) in
-    subst (λ u. Advances s u) (all .1) (commits j s li stands)
+  lays-one-each : OneForEach n s (committed j s li)
+  unfolding committed
+  lays-one-each = record { quads = quads-after; points = points-after; laid = sym quads-after }
+
+module _ (j : Job) (s : State) (li : ℕ) (t : State) (e : nextRow j s li ≡ gives t) where
+  abbrev m : ℕ
+  m = length (old j s li)
+
+  -- neither 22 nor 21
+  granted : (rowStands j s li ≡ true) × (nodes s + m ≤ pointLimit) × (length (s .quads) + m ≤ quadLimit) × (committed j s li ≡ t)
+  unfolding nextRow
+  granted =
+      let all = numbered-gives _ (committed j s li) t e in
+      let checks = first-none 21 _ _ (all .0) in
+      let limits = or-false _ _ (first-none 20 _ _ (checks .1) .0) in
+      (not-false (rowStands j s li) (checks .0), ltb-false pointLimit (nodes s + m) (limits .0), ltb-false quadLimit (length (s .quads) + m) (limits .1), all .1)
+
+  pub row-advances : Advances s t
+  row-advances = subst (λ u. Advances s u) (granted .3) (commits j s li (granted .0) (granted .1) (granted .2))
+
+  pub row-one-each : OneForEach (length (front s li)) s t
+  row-one-each = subst (λ u. OneForEach (length (front s li)) s u) (granted .3) (lays-one-each j s li (granted .0) (granted .1) (granted .2))
 
 -- ---- a pass
 
@@ -118,11 +164,23 @@ rows-advance j (li ∷ order) s t e = go (nextRow j s li) refl (λ u d. rows-adv
         pick true f = absurd (not-both f)
         pick false f = rest s f
 
+begun-allowed : (s : State) → Allowed s → Allowed (begun s)
+begun-allowed s a =
+    record { points = a .points; quads = a .quads; fronts = a .fronts; frontNodes = a .frontNodes; three = a .three; sums = a .sums; laid = a .laid; rounds = a .rounds }
+
 pub pass-advances : (j : Job) (s t : State) → onePass j s ≡ gives t → Advances s t
 unfolding onePass
 pass-advances j s t e =
     let x = rows-advance j (passOrder s) (begun s) t e in
-    record { keeps = x .keeps; laidAll = x .laidAll; morePoints = x .morePoints; pointsAre = x .pointsAre; moreQuads = x .moreQuads; quadsAre = x .quadsAre }
+    record {
+      keeps = λ loops g. x .keeps loops (record { good = g .good; allowed = begun-allowed s (g .allowed) });
+      laidAll = x .laidAll;
+      morePoints = x .morePoints;
+      pointsAre = x .pointsAre;
+      moreQuads = x .moreQuads;
+      quadsAre = x .quadsAre;
+      oneForEach = x .oneForEach;
+    }
 
 -- ---- several passes
 
