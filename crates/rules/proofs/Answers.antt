@@ -27,7 +27,7 @@ use Rattle.rules.specs.Closing.{closure, closed, closings}
 use Rattle.rules.specs.Fan.{centre, fanQuads, fanned, fan}
 use Rattle.rules.specs.Calls.{andThen, paved, jobCall, closeCall, fanCall}
 use Rattle.rules.specs.Demands.{sampledLoops, Reached, byJob, bySample, byRow, byClosing, byFan}
-use Rattle.rules.proofs.Lists.{every-at}
+use Rattle.rules.proofs.Every.{every-at}
 use Rattle.rules.proofs.Numbers.{RefusedIn, loopNumbers, sampled-in}
 use Rattle.rules.proofs.Refusals.{jobRefusals, paved-in}
 use Rattle.rules.proofs.Invariant.{Good, noQuad}

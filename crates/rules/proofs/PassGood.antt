@@ -20,7 +20,8 @@ use Rattle.rules.specs.Simple.{isSimple}
 use Rattle.rules.specs.Row.{every, front, projection, newPoints, old, new, newRing, newQuads, projects, inside, offBoundary, longEnough, clearOfFront, cornersPassAt, rowStands, committed, nextRow}
 use Rattle.rules.specs.Passes.{passOrder, rowsInOrder, begun, onePass, somePasses}
 use Rattle.rules.specs.Demands.{OneForEach}
-use Rattle.rules.proofs.Lists.{and-left, and-right, every-at}
+use Rattle.rules.proofs.Lists.{and-left, and-right}
+use Rattle.rules.proofs.Every.{every-at}
 use Rattle.state.proofs.Basics.{or-false}
 use Rattle.state.proofs.Growing.{length-numbered}
 use Rattle.state.proofs.Fitting.{set-as-long}

@@ -4,7 +4,7 @@ use mathlib.Core.Bool.{Bool, true, false, cond}
 use mathlib.Core.List.{List, [], _∷_}
 use Prim.Native.Nat.{ℕ}
 use lib.Dec.{eqb, leb}
-use lib.ListN.{length}
+use lib.ListN.{length, drop}
 use Rattle.state.specs.State.{State, Held, Lengths, lengths, zeros, written, reading}
 use Rattle.input.specs.Job.{Job, inputNumber}
 use Rattle.state.specs.Outcome.{Outcome, refused, gives, firstOf, test}
@@ -45,7 +45,7 @@ state-left-listed b ns (gives s) p = record { listed = refl; refusal = λ f. abs
 -- ---- the job
 
 abbrev pub jobRefusals : List ℕ
-jobRefusals = 1 ∷ 2 ∷ 3 ∷ 4 ∷ 5 ∷ 6 ∷ 7 ∷ 10 ∷ 8 ∷ 9 ∷ 21 ∷ []
+jobRefusals = drop 1 jobNumbers
 
 loop-job : allMembers loopNumbers jobRefusals ≡ true
 unfolding allMembers member
@@ -81,7 +81,7 @@ job-listed j l = job-left-listed l jobRefusals (jobOutcome j l) (job-in j l)
 -- ---- the sample
 
 abbrev sampleRefusals : List ℕ
-sampleRefusals = 1 ∷ 2 ∷ 3 ∷ 4 ∷ 5 ∷ 6 ∷ 7 ∷ 10 ∷ 8 ∷ 9 ∷ []
+sampleRefusals = drop 1 sampleNumbers
 
 -- what a sample comes to, before it is written
 abbrev sampleOutcome : Job → Lengths → Outcome State
@@ -127,7 +127,7 @@ unfolding onState
 state-listed j b ns step h k p = state-left-listed b ns _ (chosen-in (stateNumber j b) (step (reading b)) ns (state-in j b ns h k) (p (reading b)))
 
 abbrev rowOnly : List ℕ
-rowOnly = 1 ∷ 2 ∷ 3 ∷ 4 ∷ 5 ∷ 6 ∷ 25 ∷ 20 ∷ 22 ∷ 21 ∷ []
+rowOnly = drop 1 rowNumbers
 
 row-widens : allMembers rowRefusals rowOnly ≡ true
 unfolding allMembers member
@@ -150,7 +150,7 @@ unfolding rowCall allMembers member
 row-listed j li b = state-listed j b rowOnly (rowAt j li) refl refl (row-at-in j li)
 
 abbrev closeOnly : List ℕ
-closeOnly = 1 ∷ 2 ∷ 3 ∷ 4 ∷ 5 ∷ 6 ∷ 25 ∷ 21 ∷ []
+closeOnly = drop 1 closeNumbers
 
 close-widens : allMembers (21 ∷ []) closeOnly ≡ true
 unfolding allMembers member
@@ -161,7 +161,7 @@ unfolding closeCall allMembers member
 close-listed j b = state-listed j b closeOnly closings refl refl (λ s. widen (closings s) (21 ∷ []) closeOnly close-widens (closings-in s))
 
 abbrev fanOnly : List ℕ
-fanOnly = 1 ∷ 2 ∷ 3 ∷ 4 ∷ 5 ∷ 6 ∷ 25 ∷ 23 ∷ 24 ∷ 26 ∷ 21 ∷ 27 ∷ []
+fanOnly = drop 1 fanNumbers
 
 fan-widens : allMembers fanRefusals fanOnly ≡ true
 unfolding allMembers member
