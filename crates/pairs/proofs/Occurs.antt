@@ -9,6 +9,7 @@ use lib.Dec.{eqb}
 use lib.ListN.{length, getD, set}
 use borrow.Author.Tests.{eq-eqb, ne-eqb, eqb-true, eqb-false}
 use Rattle.state.specs.State.{joined, numbered}
+use Rattle.state.specs.Given.{member, repeated}
 
 -- 1 when a is x, otherwise 0
 unfoldable pub is : ℕ → ℕ → ℕ
@@ -94,6 +95,24 @@ unfolding occursInAll occurs
 occurs-le a [] i = omega arith
 occurs-le a (xs ∷ xss) zero = omega arith
 occurs-le a (xs ∷ xss) (suc i) = let e = occurs-le a xss i in omega arith
+
+-- ---- a list whose nodes occur at most once has none twice
+
+not-member : (a : ℕ) (xs : List ℕ) → occurs a xs ≡ 0 → member a xs ≡ false
+unfolding occurs member
+not-member a [] e = refl
+not-member a (x ∷ xs) e =
+    elim (is-cases a x) [
+      | inl h ↦ absurd (omega (arith, h .1))
+      | inr h ↦ rw (ne-eqb a x (h .0)) (not-member a xs (omega arith))
+    ]
+
+pub none-repeated : (xs : List ℕ) → ((a : ℕ) → occurs a xs ≤ 1) → repeated xs ≡ false
+unfolding occurs repeated
+none-repeated [] one = refl
+none-repeated (x ∷ xs) one =
+    rw (not-member x xs (omega (arith, one x, is-same x x refl)))
+    (none-repeated xs (λ a. omega (arith, one a)))
 
 -- ---- numbered nodes
 

@@ -17,7 +17,7 @@ use Rattle.input.specs.Job.{Job}
 use Rattle.rules.specs.Checks.{newQuads}
 use Rattle.rules.specs.Row.{front, newOf, rowStands, committed, nextRow}
 use Rattle.rules.proofs.RowSides.{row-length}
-use Rattle.rules.proofs.Stands.{six, long, granted}
+use Rattle.rules.proofs.RowStands.{six, long, granted}
 
 module _ (j : Job) (s : State) (li : ℕ) (fit : Fit s) where
   abbrev n : ℕ

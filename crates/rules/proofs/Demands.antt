@@ -1,71 +1,96 @@
 -- The demands hold.
-use mathlib.Core.Path.{_≡_, refl, ap, sym, _∙_, subst, subst₂}
-use mathlib.Core.Bool.{Bool, true, false, cond}
+use mathlib.Core.Path.{_≡_, refl, ap, sym, _∙_, subst₂}
 use mathlib.Core.List.{List, _++_, map, append-assoc}
 use Prim.Native.Nat.{ℕ, _*_, _%_, _≤_}
 use native.Mathlib.Omega.{arith}
-use lib.Dec.{eqb}
 use lib.ListN.{length, take, length-append}
 use lib.Seq.{take-at}
 use Rattle.float.specs.Helpers.{decimal}
 use Rattle.state.specs.State.{State, Held, Lengths, Quad, nodes, joined, padded, written, reading}
+use Rattle.state.specs.Coordinates.{wrongCoordinate}
+use Rattle.state.specs.Given.{wrongState}
+use Rattle.state.specs.Call.{numberOf}
 use Rattle.input.specs.Job.{Job}
-use Rattle.state.specs.Outcome.{Outcome, refused, gives}
-use Rattle.sampling.specs.Sample.{sampled}
-use Rattle.state.specs.Call.{numberOf, stateLeft, onState}
+use Rattle.state.specs.Outcome.{gives}
 use Rattle.rules.specs.Passes.{somePasses}
 use Rattle.rules.specs.Closing.{closure, closed}
-use Rattle.rules.specs.Fan.{fan}
-use Rattle.rules.specs.Calls.{jobCall, fanCall}
-use Rattle.rules.specs.Demands.{sampledLoops, Tiled, underLimit, Begins, Demand3}
-use Rattle.state.proofs.Outcomes.{gives-same, not-both}
-use Rattle.state.proofs.Growing.{numbers, numbers-append, length-numbers}
+use Rattle.rules.specs.Calls.{jobCall}
+use Rattle.pairs.specs.Pairs.{pairCount}
+use Rattle.rules.specs.Demands.{Tiled, Reached, byJob, byFan, Laid, underLimit, Begins, Demand3}
+use Rattle.state.proofs.Outcomes.{gives-same}
 use Rattle.state.proofs.Written.{reading-written}
-use Rattle.rules.proofs.SampleGood.{sampled-fresh, fresh-good}
-use Rattle.rules.proofs.PassGood.{GoodState, Advances, passes-prefix, passes-advance}
+use Rattle.state.proofs.Growing.{numbers, numbers-append, length-numbers}
+use Rattle.rules.proofs.Allowed.{Stands, number-25}
+use Rattle.rules.proofs.SampleGood.{sampled-began}
+use Rattle.rules.proofs.PassGood.{Advances, row-one-each, passes-prefix, passes-advance}
 use Rattle.rules.proofs.Limits.{sampled-same, passes-same}
-use Rattle.rules.proofs.Refusals.{stateNumber}
-use Rattle.rules.proofs.Answers.{job-accepted, made-good, good-tiled, Fanned, fan-tiled}
+use Rattle.rules.proofs.Answers.{Made, job-accepted, paved-made, closings-give, rows-stand, read-back, reached-holds}
 
--- ---- each answer
+-- ---- any use of the calls
 
-answer-tiled : (j : Job) (l : Lengths) → numberOf (jobCall j l) ≡ 0 → Tiled (sampledLoops (sampled j)) (reading (jobCall j l .held))
-answer-tiled j l e =
+stands-tiled : (loops : List (List ℕ)) (s : State) → Stands loops s → Tiled loops s
+unfolding pairCount
+stands-tiled loops s g = record { corners = g .good .corners; pairs = g .good .count }
+
+reached-tiled : {loops : List (List ℕ)} {b : Held} → Reached loops b → Tiled loops (reading b)
+reached-tiled {loops} r = let h = reached-holds r in rw (read-back h) (stands-tiled loops (h .state) (h .stands))
+
+reached-taken : {loops : List (List ℕ)} {b : Held} → Reached loops b → wrongState b ≡ wrongCoordinate (decimal 1000000000 0) (reading b .points)
+reached-taken {loops} r = let h = reached-holds r in ap wrongState (h .heldIs) ∙ number-25 loops (h .state) (h .stands) ∙ ap (λ s. wrongCoordinate (decimal 1000000000 0) (s .points)) (sym (read-back h))
+
+-- ---- an accepted job
+
+-- the state that the passes left, and what the answer is of it
+record Rows (j : Job) (l : Lengths) : Type 0 where
+  pub state : State
+  pub made : Made j state
+  pub heldIs : jobCall j l .held ≡ written (closed (made .rows))
+  pub readIs : reading (jobCall j l .held) ≡ closed (made .rows)
+  pub even : length (made .rows .points) % 2 ≡ 0
+  pub advance : Advances (made .start) (made .rows)
+  -- laid is all that the rows laid
+  pub all : made .rows .laid ≡ length (made .rows .quads)
+
+rows-of : (j : Job) (l : Lengths) → numberOf (jobCall j l) ≡ 0 → Rows j l
+unfolding jobCall closed
+rows-of j l e =
     let a = job-accepted j l e in
-    let g = made-good j (a .state) (a .made) in
-    subst (λ b. Tiled (sampledLoops (sampled j)) (reading b)) (sym (a .heldIs))
-    (subst (λ s. Tiled (sampledLoops (sampled j)) s) (sym (reading-written (a .state) (g .even))) (good-tiled (sampledLoops (sampled j)) (a .state) g))
+    let m = paved-made j (a .state) (a .madeIs) in
+    let is = closings-give (m .rows) (a .state) (m .closingsAre) .0 in
+    let adv = passes-advance j (j .options .«max_row_rounds») (m .start) (m .rows) (m .passesAre) in
+    let fresh = sampled-began j (m .start) (m .sampledIs) .fresh in
+    let even = rows-stand j l (a .state) (a .input) m .good .even in
+    record {
+      state = a .state;
+      made = m;
+      heldIs = a .heldIs ∙ ap written is;
+      readIs = ap reading (a .heldIs ∙ ap written is) ∙ reading-written (closed (m .rows)) even;
+      even = even;
+      advance = adv;
+      all = adv .laidAll (fresh .noneLaid ∙ sym (ap length (fresh .none)));
+    }
 
--- ---- after any fan
-
-after-fan : (j k : Job) (l : Lengths) → numberOf (jobCall j l) ≡ 0 → Tiled (sampledLoops (sampled j)) (reading (fanCall k (jobCall j l .held) .held))
-unfolding fanCall onState stateLeft
-after-fan j k l e = go (stepped (eqb (stateNumber k b) 0)) refl
-  where
-    b : Held
-    b = jobCall j l .held
-
-    loops : List (List ℕ)
-    loops = sampledLoops (sampled j)
-
-    stepped : Bool → Outcome State
-    stepped t = cond t (fan k (reading b)) (refused (stateNumber k b))
-
-    good : GoodState loops (reading b)
-    good =
-        let a = job-accepted j l e in
-        let g = made-good j (a .state) (a .made) in
-        subst (λ x. GoodState loops (reading x)) (sym (a .heldIs)) (subst (λ s. GoodState loops s) (sym (reading-written (a .state) (g .even))) g)
-
-    granted : (u : State) (t : Bool) → stepped t ≡ gives u → Fanned loops u
-    granted u true d = fan-tiled loops k (reading b) u good d
-    granted u false d = absurd (not-both d)
-
-    go : (x : Outcome State) → stepped (eqb (stateNumber k b) 0) ≡ x → Tiled loops (reading (stateLeft b x .held))
-    go (refused n) d = answer-tiled j l e
-    go (gives u) d =
-        let f = granted u (eqb (stateNumber k b) 0) d in
-        subst (λ s. Tiled loops s) (sym (reading-written u (f .even))) (f .tiled)
+job-laid : (j : Job) (l : Lengths) → numberOf (jobCall j l) ≡ 0 → Laid j (jobCall j l .held)
+unfolding closed written
+job-laid j l e =
+    let r = rows-of j l e in
+    let u = r .made .rows in
+    let s = r .made .start in
+    let adv = r .advance in
+    let none : length (s .quads) ≡ 0 = ap length (sampled-began j s (r .made .sampledIs) .fresh .none) in
+    let points : reading (jobCall j l .held) .points ≡ u .points = ap (λ t. t .points) (r .readIs) in
+    let laid : jobCall j l .held .counts .laid ≡ length (u .quads) = ap (λ b. b .counts .laid) (r .heldIs) ∙ r .all in
+    record {
+      start = s;
+      sampledIs = r .made .sampledIs;
+      rows = u;
+      passesAre = r .made .passesAre;
+      points = points;
+      sampledFirst = rw (points, adv .pointsAre) (take-at (s .points) (adv .morePoints) (length (s .points)) refl);
+      laidIs = laid;
+      quadsFirst = rw (laid, r .readIs) (take-at (u .quads) _ (length (u .quads)) refl);
+      oneForEach = omega (arith, ap length (adv .pointsAre), ap length (adv .quadsAre), length-append (s .points) (adv .morePoints), length-append (s .quads) (adv .moreQuads), adv .oneForEach);
+    }
 
 -- ---- two pass limits
 
@@ -102,20 +127,23 @@ module _ (s t : State) (adv : Advances s t) (all : s .laid ≡ length (s .quads)
 begins : (j : Job) (l : Lengths) (p q : ℕ) → p ≤ q → numberOf (jobCall (underLimit j p) l) ≡ 0 → numberOf (jobCall (underLimit j q) l) ≡ 0
     → Begins (jobCall (underLimit j p) l .held) (jobCall (underLimit j q) l .held)
 begins j l p q le e f =
-    let a = job-accepted (underLimit j p) l e in
-    let b = job-accepted (underLimit j q) l f in
+    let a = rows-of (underLimit j p) l e in
+    let b = rows-of (underLimit j q) l f in
     let s = a .made .start in
-    let t = b .made .start in
-    let same : t ≡ s = gives-same (sym (b .made .sampledIs) ∙ sym (sampled-same j p q) ∙ a .made .sampledIs) in
-    let u = a .made .laidBy in
-    let v = b .made .laidBy in
+    let u = a .made .rows in
+    let v = b .made .rows in
+    let same : b .made .start ≡ s = gives-same (sym (b .made .sampledIs) ∙ sym (sampled-same j p q) ∙ a .made .sampledIs) in
     let later : somePasses (underLimit j p) q s ≡ gives v = passes-same j p q q s ∙ ap (somePasses (underLimit j q) q) (sym same) ∙ b .made .passesAre in
     let adv = passes-prefix (underLimit j p) p q s u v le (a .made .passesAre) later in
-    let fresh = sampled-fresh (underLimit j p) s (a .made .sampledIs) in
-    let up = passes-advance (underLimit j p) p s u (a .made .passesAre) in
-    let all : u .laid ≡ length (u .quads) = up .laidAll (fresh .noneLaid ∙ sym (ap length (fresh .none))) in
-    let good = up .keeps (s .fronts) (fresh-good s fresh) in
-    subst₂ Begins (sym (a .heldIs ∙ ap written (a .made .closedIs))) (sym (b .heldIs ∙ ap written (b .made .closedIs))) (closed-begins u v adv all (good .even))
+    subst₂ Begins (sym (a .heldIs)) (sym (b .heldIs)) (closed-begins u v adv (a .all) (a .even))
 
 pub demand-3 : Demand3
-demand-3 = record { prefix = begins; answer = answer-tiled; fan = after-fan }
+demand-3 = record {
+  prefix = begins;
+  answer = λ j l e. reached-tiled (byJob j l e);
+  fan = λ j k l e. reached-tiled (byFan k (byJob j l e));
+  anyUse = reached-tiled;
+  takenBack = reached-taken;
+  row = row-one-each;
+  laid = job-laid;
+}

@@ -1,13 +1,25 @@
 -- A test made at each place, as a loop makes it that stops at the first place that fails; and what a test on a computed value says of the definition's.
 use mathlib.Core.Path.{_≡_, refl, sym}
 use mathlib.Core.Bool.{Bool, true, false, not}
+use mathlib.Core.Logic.{inl, inr}
 use Prim.Native.Nat.{ℕ, zero, suc, _+_, _-_, _<_}
-use native.Mathlib.Nat.{add-zero, add-suc}
+use native.Mathlib.Nat.{add-zero, add-suc, eq-or-lt-of-le, le-of-suc-le-suc}
 use native.Mathlib.Numerals.{add-one}
 use native.Mathlib.Omega.{arith}
 use lib.Ieee.{Float, lt}
 use Rattle.state.proofs.Basics.{and-false}
 use Rattle.rules.specs.Checks.{every}
+use Rattle.rules.proofs.Lists.{and-left, and-right}
+
+-- what holds at each place holds at one of them
+pub every-at : (p : ℕ → Bool) (n i : ℕ) → every p n ≡ true → i < n → p i ≡ true
+unfolding every
+every-at p zero i e l = absurd (omega arith)
+every-at p (suc n) i e l =
+    elim (eq-or-lt-of-le (le-of-suc-le-suc l)) [
+      | inl d ↦ rw d (and-right (every p n) (p n) e)
+      | inr m ↦ every-at p n i (and-left (every p n) (p n) e) m
+    ]
 
 module _ (p : ℕ → Bool) where
   pub every-none : every p 0 ≡ true

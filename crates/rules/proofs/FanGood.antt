@@ -1,11 +1,11 @@
--- A fan of the one front that is left: pairs are still counted never or twice, and every quad passes.
+-- A fan of the one front that is left keeps the invariant, with no front left.
 use mathlib.Core.Path.{_≡_, refl, ap, sym, _∙_}
 use mathlib.Core.Bool.{true}
 use mathlib.Core.List.{List, [], _∷_, _++_, map, map-append}
 use mathlib.Core.Logic.{_⊎_, inl, inr}
 use Prim.Native.Nat.{ℕ, zero, suc, _+_, _*_, _/_, _%_, _≤_, _<_}
 use native.Mathlib.Omega.{arith}
-use native.Mathlib.Nat.{mod-eq-of-lt, mod-self}
+use native.Mathlib.Nat.{add-zero, mod-eq-of-lt, mod-self, mod-lt}
 use lib.ListN.{length, getD, length-append}
 use lib.Ieee.{Float}
 use Rattle.geometry.specs.Rings.{next}
@@ -17,9 +17,9 @@ use Rattle.rules.specs.Fan.{fanQuads}
 use Rattle.rules.proofs.Lists.{all-append, below-or-from, twice}
 use Rattle.pairs.proofs.Sums.{sum-cong, sum-add, sum-none, sum-once, sum-next, sum-pairs}
 use Rattle.pairs.proofs.Occurs.{occurs, occursInAll, occurs-none, occurs-once}
-use Rattle.pairs.proofs.Sides.{pair-cases, pair-le, pair-swap, next-cases, quad-sides, sides-append-all, sides-none-left, sides-none-right}
-use Rattle.rules.proofs.Invariant.{Good, noQuad, laidCount, laid-append, passes-append}
-use Rattle.rules.proofs.ClosingGood.{turned-sides}
+use Rattle.pairs.proofs.Sides.{pair-cases, pair-le, pair-not-left, pair-flip, pair-swap, next-cases, quad-sides, sides-append-all, sides-none-left, sides-none-right}
+use Rattle.rules.proofs.Invariant.{Good, Below, noQuad, laidCount, laid-append, passes-append}
+use Rattle.rules.proofs.ClosingGood.{turned-sides, turned-nodes}
 
 pub fan-length : (pts : List Float) (f : List ℕ) (c k : ℕ) → length (fanQuads pts f c k) ≡ k
 unfolding fanQuads
@@ -95,6 +95,13 @@ module _ (a b : ℕ) (pts : List Float) (f : List ℕ) (c m : ℕ) (even : lengt
       let ahead : sum (λ i. spoke (next m i)) m ≡ sum spoke m = sum-next spoke m in
       omega (arith, fan-terms m)
 
+  -- a node that is neither the centre nor in the front is on no spoke
+  pub spokes-none-left : (a ≡ c → ⊥) → occurs a f ≡ 0 → spokes ≡ 0
+  spokes-none-left p z = sum-none spoke m (λ i l. pair-not-left a b c (at (2 * i)) p (occurs-none a f (2 * i) z (omega arith)))
+
+  pub spokes-none-right : (b ≡ c → ⊥) → occurs b f ≡ 0 → spokes ≡ 0
+  spokes-none-right p z = sum-none spoke m (λ i l. pair-flip a b c (at (2 * i)) ∙ pair-not-left b a c (at (2 * i)) p (occurs-none b f (2 * i) z (omega arith)))
+
   -- the centre is no node of the front
   module _ (new : (i : ℕ) → i < length f → c ≡ getD f i 0 → ⊥) (one : (x : ℕ) → occurs x f ≤ 1) where
     pub spokes-none : (a ≡ c → ⊥) → (b ≡ c → ⊥) → spokes ≡ 0
@@ -129,7 +136,7 @@ module _ (loops : List (List ℕ)) (points : List Float) (quads : List Quad) (f 
   abbrev p : ℕ
   p = length points / 2
 
-  abbrev pub fanAdded : List Quad
+  abbrev fanAdded : List Quad
   fanAdded = fanQuads (points ++ more) f p m
 
   once : (c : ℕ) → occurs c f ≤ 1
@@ -148,7 +155,7 @@ module _ (loops : List (List ℕ)) (points : List Float) (quads : List Quad) (f 
   laid-after : (a b : ℕ) → laidCount loops (quads ++ fanAdded) a b ≡ laidCount loops quads a b + (sides a b f + 2 * spokes a b (points ++ more) f p m even)
   laid-after a b = laid-append loops quads fanAdded a b ∙ ap (λ t. laidCount loops quads a b + t) (fan-sides a b (points ++ more) f p m even)
 
-  pub fan-count : (a b : ℕ) → (laidCount loops (quads ++ fanAdded) a b ≡ 0) ⊎ (laidCount loops (quads ++ fanAdded) a b ≡ 2)
+  fan-count : (a b : ℕ) → (laidCount loops (quads ++ fanAdded) a b ≡ 0) ⊎ (laidCount loops (quads ++ fanAdded) a b ≡ 2)
   fan-count a b = go (below-or-from a p) (below-or-from b p)
     where
       few : spokes a b (points ++ more) f p m even ≤ 1
@@ -162,7 +169,46 @@ module _ (loops : List (List ℕ)) (points : List Float) (quads : List Quad) (f 
           let e : laidCount loops (quads ++ fanAdded) a b ≡ laidCount loops quads a b + sidesOfAll a b (f ∷ []) = omega (arith, laid-after a b, one-front a b) in
           rw e (good .count a b)
 
-  pub fan-corners : ((i : ℕ) → i < m → quadPasses (points ++ more) (getD fanAdded i noQuad) ≡ true) → (i : ℕ) → i < length (quads ++ fanAdded) → quadPasses (points ++ more) (getD (quads ++ fanAdded) i noQuad) ≡ true
-  fan-corners passed =
-      all-append (λ q. quadPasses (points ++ more) q ≡ true) noQuad quads fanAdded (λ i l. passes-append points more (getD quads i noQuad) (good .quadsLow i l) ∙ good .corners i l)
-      (λ i l. passed i (omega (arith, fan-length (points ++ more) f p m)))
+  -- a fan's quads have the centre, which is node p, and front nodes, which are below p
+  fan-low : (k : ℕ) → k ≤ m → (i : ℕ) → i < length (fanQuads (points ++ more) f p k) → Below (p + 1) (getD (fanQuads (points ++ more) f p k) i noQuad)
+  unfolding fanQuads
+  fan-low zero l = λ i h. absurd (omega arith)
+  fan-low (suc k) l = all-append (Below (p + 1)) noQuad (fanQuads (points ++ more) f p k) _ (fan-low k (omega arith)) last
+    where
+      node : (i : ℕ) → getD f (i % length f) 0 < p + 1
+      node i =
+          elim (below-or-from (getD f (i % length f) 0) p) [
+            | inl h ↦ omega (arith, h)
+            | inr h ↦ absurd (occurs-none (getD f (i % length f) 0) f (i % length f) (low _ h) (mod-lt i (omega arith)) refl)
+          ]
+
+      last : (i : ℕ) → i < 1
+          → Below (p + 1) (getD (turnedQuad (points ++ more) (quad p (getD f (2 * k % length f) 0) (getD f ((2 * k + 1) % length f) 0) (getD f ((2 * k + 2) % length f) 0)) ∷ []) i noQuad)
+      last zero h = turned-nodes (λ c. c < p + 1) (points ++ more) _ (omega arith, node (2 * k), node (2 * k + 1), node (2 * k + 2))
+      last (suc i) h = absurd (omega arith)
+
+  pub fan-good : length more ≡ 2 → ((i : ℕ) → i < m → quadPasses (points ++ more) (getD (fanQuads (points ++ more) f (length points / 2) m) i noQuad) ≡ true)
+      → Good loops (points ++ more) (quads ++ fanQuads (points ++ more) f (length points / 2) m) []
+  unfolding occursInAll sidesOfAll
+  fan-good centre passed = record {
+    even = omega (arith, length-append points more, good .even);
+    once = λ a. omega arith;
+    low = λ a h. refl;
+    count = λ a b. rw (add-zero (laidCount loops (quads ++ fanAdded) a b)) (fan-count a b);
+    own = λ a b s t. absurd (omega arith);
+    freshLeft = λ a b h.
+        let x : p < a = omega (arith, nodes-after) in
+        omega (arith, laid-after a b, good .freshLeft a b (omega arith), sides-none-left a b f (low a (omega arith)), spokes-none-left a b (points ++ more) f p m even (λ e. omega arith) (low a (omega arith)));
+    freshRight = λ a b h.
+        let x : p < b = omega (arith, nodes-after) in
+        omega (arith, laid-after a b, good .freshRight a b (omega arith), sides-none-right a b f (low b (omega arith)), spokes-none-right a b (points ++ more) f p m even (λ e. omega arith) (low b (omega arith)));
+    quadsLow = rw nodes-after
+        (all-append (Below (p + 1)) noQuad quads fanAdded
+        (λ i l. let q = good .quadsLow i l in (omega (arith, q .0), omega (arith, q .1), omega (arith, q .2), omega (arith, q .3)))
+        (fan-low m (omega arith)));
+    corners = all-append (λ q. quadPasses (points ++ more) q ≡ true) noQuad quads fanAdded (λ i l. passes-append points more (getD quads i noQuad) (good .quadsLow i l) ∙ good .corners i l)
+        (λ i l. passed i (omega (arith, fan-length (points ++ more) f p m)));
+  }
+    where
+      nodes-after : length (points ++ more) / 2 ≡ p + 1
+      nodes-after = omega (arith, length-append points more)

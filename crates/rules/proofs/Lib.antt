@@ -2,12 +2,13 @@ pub mod Lists
 pub mod Every
 pub mod RowSides
 pub mod Invariant
+pub mod Allowed
 pub mod RowGood
 pub mod Closes
 pub mod ClosingGood
 pub mod FanGood
 pub mod SampleGood
-pub mod Stands
+pub mod RowStands
 pub mod PassGood
 pub mod Numbers
 pub mod Limits

@@ -4,14 +4,12 @@ use mathlib.Core.Bool.{Bool, true, false, _&&_, _||_}
 use mathlib.Core.List.{List, [], _∷_, _++_}
 use Prim.Native.Nat.{ℕ, zero, suc, _+_, _*_, _/_, _≤_, _<_}
 use native.Mathlib.Omega.{arith}
-use native.Mathlib.Nat.{eq-or-lt-of-le, le-of-suc-le-suc}
 use mathlib.Core.Logic.{_⊎_, inl, inr}
 use lib.Dec.{ltb}
 use borrow.Author.Tests.{ltb-true, ltb-false}
 use lib.ListN.{length, getD, List·getD-append}
 use lib.Ieee.{Float, nan}
 use Rattle.geometry.specs.Rings.{pointAt}
-use Rattle.rules.specs.Checks.{every}
 
 -- what holds at each place of two lists holds at each place of both together
 pub all-append : {A : Type 0} (P : A → Type 0) (d : A) (xs ys : List A) → ((i : ℕ) → i < length xs → P (getD xs i d)) → ((i : ℕ) → i < length ys → P (getD ys i d))
@@ -45,15 +43,6 @@ and-right false false e = e
 pub or-true-right : (a b : Bool) → b ≡ true → (a || b) ≡ true
 or-true-right true b e = refl
 or-true-right false b e = e
-
-pub every-at : (p : ℕ → Bool) (n i : ℕ) → every p n ≡ true → i < n → p i ≡ true
-unfolding every
-every-at p zero i e l = absurd (omega arith)
-every-at p (suc n) i e l =
-    elim (eq-or-lt-of-le (le-of-suc-le-suc l)) [
-      | inl d ↦ rw d (and-right (every p n) (p n) e)
-      | inr m ↦ every-at p n i (and-left (every p n) (p n) e) m
-    ]
 
 -- a node's point stays where points are only added
 pub point-append : (p more : List Float) (i : ℕ) → i < length p / 2 → pointAt (p ++ more) i ≡ pointAt p i

@@ -1,9 +1,8 @@
 -- Which numbers a step can refuse with.
-use mathlib.Core.Path.{_≡_, refl, ap, sym, subst}
-use mathlib.Core.Bool.{Bool, true, false, cond, _&&_}
+use mathlib.Core.Path.{_≡_, refl, sym, subst}
+use mathlib.Core.Bool.{Bool, true, false, cond, _&&_, false≢true}
 use mathlib.Core.List.{List, [], _∷_, map}
 use Prim.Native.Nat.{ℕ, zero, suc, _+_}
-use native.Mathlib.Omega.{arith}
 use lib.Dec.{eqb, ltb}
 use lib.ListN.{length}
 use lib.Ieee.{Float}
@@ -45,10 +44,7 @@ allMembers (x ∷ xs) ys = member x ys && allMembers xs ys
 
 pub member-widen : (n : ℕ) (xs ys : List ℕ) → allMembers xs ys ≡ true → member n xs ≡ true → member n ys ≡ true
 unfolding allMembers member
-member-widen n [] ys h e = absurd (nothing e)
-  where
-    nothing : false ≡ true → ⊥
-    nothing d = let z : _≡_ {A = ℕ} 0 1 = ap (λ t. cond t 1 0) d in omega arith
+member-widen n [] ys h e = absurd (false≢true e)
 member-widen n (x ∷ xs) ys h e = go (eqb n x) refl (member-widen n xs ys (and-right (member x ys) (allMembers xs ys) h))
   where
     go : (t : Bool) → eqb n x ≡ t → (member n xs ≡ true → member n ys ≡ true) → member n ys ≡ true

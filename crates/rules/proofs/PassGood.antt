@@ -5,34 +5,36 @@ use mathlib.Core.List.{List, [], _∷_, _++_, append-nil, append-assoc}
 use Prim.Native.Nat.{ℕ, zero, suc, _+_, _*_, _/_, _≤_, _<_}
 use native.Mathlib.Omega.{arith}
 use lib.Dec.{eqb}
-use lib.ListN.{length, getD, length-append}
+use lib.ListN.{length, length-append, length-set}
 use lib.Ieee.{Float}
-use Rattle.state.specs.State.{State, Quad, nodes}
+use Rattle.state.specs.State.{State, Quad, nodes, numbered}
 use Rattle.input.specs.Job.{Job}
 use Rattle.state.specs.Outcome.{Outcome, refused, gives}
 use Rattle.rules.specs.Checks.{newQuads}
-use Rattle.rules.specs.Row.{front, newOf, rowStands, committed, nextRow}
+use Rattle.rules.specs.Row.{front, newOf, committed, nextRow}
 use Rattle.rules.specs.Passes.{passOrder, rowsInOrder, begun, onePass, somePasses}
+use Rattle.rules.specs.Demands.{OneForEach}
+use Rattle.state.proofs.Growing.{length-numbered}
+use Rattle.state.proofs.Fitting.{set-as-long}
 use Rattle.state.proofs.Outcomes.{gives-same, not-both}
 use Rattle.rules.proofs.RowSides.{row-length}
-use Rattle.rules.proofs.Invariant.{Good}
-use Rattle.rules.proofs.Stands.{six, long, corners, granted}
+use Rattle.rules.proofs.RowStands.{Granted, granted, six, long, corners}
 use Rattle.rules.proofs.RowGood.{row-good}
-
-abbrev pub GoodState : List (List ℕ) → State → Type 0
-GoodState loops s = Good loops (s .points) (s .quads) (s .fronts)
+use Rattle.rules.proofs.Allowed.{Allowed, Stands, short-set}
 
 -- what a step of the rows does to a state
 pub record Advances (s t : State) : Type 0 where
-  pub keeps : (loops : List (List ℕ)) → GoodState loops s → GoodState loops t
+  pub keeps : (loops : List (List ℕ)) → Stands loops s → Stands loops t
   pub laidAll : s .laid ≡ length (s .quads) → t .laid ≡ length (t .quads)
   pub morePoints : List Float
   pub pointsAre : t .points ≡ s .points ++ morePoints
   pub moreQuads : List Quad
   pub quadsAre : t .quads ≡ s .quads ++ moreQuads
+  -- a quad for each point, which has two coordinates
+  pub oneForEach : length morePoints ≡ length moreQuads * 2
 
 pub stays : (s : State) → Advances s s
-stays s = record { keeps = λ loops g. g; laidAll = λ e. e; morePoints = []; pointsAre = sym (append-nil (s .points)); moreQuads = []; quadsAre = sym (append-nil (s .quads)) }
+stays s = record { keeps = λ loops g. g; laidAll = λ e. e; morePoints = []; pointsAre = sym (append-nil (s .points)); moreQuads = []; quadsAre = sym (append-nil (s .quads)); oneForEach = refl }
 
 pub goes-on : {s t u : State} → Advances s t → Advances t u → Advances s u
 goes-on {s} {t} {u} x y = record {
@@ -42,26 +44,76 @@ goes-on {s} {t} {u} x y = record {
   pointsAre = y .pointsAre ∙ ap (λ p. p ++ y .morePoints) (x .pointsAre) ∙ append-assoc (s .points) (x .morePoints) (y .morePoints);
   moreQuads = x .moreQuads ++ y .moreQuads;
   quadsAre = y .quadsAre ∙ ap (λ q. q ++ y .moreQuads) (x .quadsAre) ∙ append-assoc (s .quads) (x .moreQuads) (y .moreQuads);
+  oneForEach = omega (arith, length-append (x .morePoints) (y .morePoints), length-append (x .moreQuads) (y .moreQuads), x .oneForEach, y .oneForEach);
 }
 
 -- ---- a row
 
-commits : (j : Job) (s : State) (li : ℕ) → rowStands j (s .points) (s .fronts) li ≡ true → Advances s (committed s li (newOf j (s .points) (s .fronts) li))
-unfolding committed
-commits j s li stands =
-    let new = newOf j (s .points) (s .fronts) li in
-    let added = newQuads (s .points) (front s li) in
-    record {
-      keeps = λ loops g. row-good loops (s .points) (s .quads) (s .fronts) li g new (six j (s .points) (s .fronts) li stands) (long j (s .points) (s .fronts) li stands) (corners j (s .points) (s .fronts) li stands);
-      laidAll = λ e. sym (length-append (s .quads) added ∙ ap (λ k. length (s .quads) + k) (row-length (front s li) (nodes s) (length (front s li))));
-      morePoints = new;
-      pointsAre = refl;
-      moreQuads = added;
-      quadsAre = refl;
-    }
+module _ (j : Job) (s : State) (li : ℕ) (t : State) (e : nextRow j s li ≡ gives t) where
+  abbrev n : ℕ
+  n = length (front s li)
 
-pub row-advances : (j : Job) (s : State) (li : ℕ) (t : State) → nextRow j s li ≡ gives t → Advances s t
-row-advances j s li t e = let g = granted j s li t e in subst (λ u. Advances s u) (g .leaves) (commits j s li (g .stands))
+  abbrev new : List Float
+  new = newOf j (s .points) (s .fronts) li
+
+  abbrev added : List Quad
+  added = newQuads (s .points) (front s li)
+
+  given : Granted j s li t
+  given = granted j s li t e
+
+  many : 6 ≤ n
+  many = six j (s .points) (s .fronts) li (given .stands)
+
+  new-long : length new ≡ n * 2
+  new-long = long j (s .points) (s .fronts) li (given .stands)
+
+  quads-after : length (s .quads ++ added) ≡ length (s .quads) + n
+  quads-after = length-append (s .quads) added ∙ ap (λ k. length (s .quads) + k) (row-length (front s li) (nodes s) n)
+
+  points-after : length (s .points ++ new) / 2 ≡ nodes s + n
+  points-after = omega (arith, length-append (s .points) new, new-long)
+
+  new-front : length (numbered (nodes s) n) ≡ n
+  new-front = length-numbered (nodes s) n
+
+  row-allowed : Allowed s → Allowed (committed s li new)
+  unfolding committed
+  row-allowed a = record {
+    points = omega (arith, points-after, given .points);
+    quads = omega (arith, quads-after, given .quads);
+    fronts = rw (length-set (s .fronts) li (numbered (nodes s) n)) (a .fronts);
+    frontNodes = rw (set-as-long (s .fronts) li (numbered (nodes s) n) new-front) (a .frontNodes);
+    three = short-set (s .fronts) li (numbered (nodes s) n) (omega (arith, new-front, many)) (a .three);
+    sums = omega (arith, quads-after, a .sums);
+    laid = omega (arith, quads-after);
+    rounds = omega (arith, a .rounds, many);
+  }
+
+  commits : Advances s (committed s li new)
+  unfolding committed
+  commits = record {
+    keeps = λ loops g. record {
+      good = row-good loops (s .points) (s .quads) (s .fronts) li (g .good) new many new-long (corners j (s .points) (s .fronts) li (given .stands));
+      allowed = row-allowed (g .allowed);
+    };
+    laidAll = λ e. sym quads-after;
+    morePoints = new;
+    pointsAre = refl;
+    moreQuads = added;
+    quadsAre = refl;
+    oneForEach = omega (arith, new-long, row-length (front s li) (nodes s) n);
+  }
+
+  lays-one-each : OneForEach n s (committed s li new)
+  unfolding committed
+  lays-one-each = record { quads = quads-after; points = points-after; laid = sym quads-after }
+
+  pub row-advances : Advances s t
+  row-advances = subst (λ u. Advances s u) (given .leaves) commits
+
+  pub row-one-each : OneForEach n s t
+  row-one-each = subst (λ u. OneForEach n s u) (given .leaves) lays-one-each
 
 -- ---- a pass
 
@@ -78,11 +130,23 @@ rows-advance j (li ∷ order) s t e = go (nextRow j s li) refl (λ u d. rows-adv
         pick true f = absurd (not-both f)
         pick false f = rest s f
 
+begun-allowed : (s : State) → Allowed s → Allowed (begun s)
+begun-allowed s a =
+    record { points = a .points; quads = a .quads; fronts = a .fronts; frontNodes = a .frontNodes; three = a .three; sums = a .sums; laid = a .laid; rounds = a .rounds }
+
 pub pass-advances : (j : Job) (s t : State) → onePass j s ≡ gives t → Advances s t
 unfolding onePass
 pass-advances j s t e =
     let x = rows-advance j (passOrder s) (begun s) t e in
-    record { keeps = x .keeps; laidAll = x .laidAll; morePoints = x .morePoints; pointsAre = x .pointsAre; moreQuads = x .moreQuads; quadsAre = x .quadsAre }
+    record {
+      keeps = λ loops g. x .keeps loops (record { good = g .good; allowed = begun-allowed s (g .allowed) });
+      laidAll = x .laidAll;
+      morePoints = x .morePoints;
+      pointsAre = x .pointsAre;
+      moreQuads = x .moreQuads;
+      quadsAre = x .quadsAre;
+      oneForEach = x .oneForEach;
+    }
 
 -- ---- several passes
 

@@ -4,11 +4,11 @@ use mathlib.Core.Bool.{Bool, true, false, cond}
 use mathlib.Core.List.{List, [], _∷_}
 use Prim.Native.Nat.{ℕ}
 use lib.Dec.{eqb, leb}
-use lib.ListN.{length}
-use Rattle.state.specs.State.{State, Held, Lengths, lengths, zeros, reading}
+use lib.ListN.{length, drop}
+use Rattle.state.specs.State.{State, Held, Lengths, lengths, zeros, written, reading}
 use Rattle.input.specs.Job.{Job, inputNumber}
 use Rattle.state.specs.Outcome.{Outcome, refused, gives, firstOf, test}
-use Rattle.sampling.specs.Sample.{sampled, onJob}
+use Rattle.sampling.specs.Sample.{sampled, onJob, sampleCall}
 use Rattle.rules.specs.Row.{nextRow}
 use Rattle.state.specs.Given.{member, wrongState}
 use Rattle.state.specs.Call.{jobLeft, stateLeft, onState}
@@ -17,7 +17,7 @@ use Rattle.rules.specs.Passes.{somePasses}
 use Rattle.rules.specs.Closing.{closings}
 use Rattle.rules.specs.Fan.{fan}
 use Rattle.rules.specs.Calls.{andThen, paved, jobCall, closeCall, fanCall}
-use Rattle.rules.specs.Demands.{jobNumbers, rowNumbers, closeNumbers, fanNumbers, Listed, Demand1}
+use Rattle.rules.specs.Demands.{jobNumbers, sampleNumbers, rowNumbers, closeNumbers, fanNumbers, Listed, Demand1}
 use Rattle.rules.proofs.Lists.{or-true-right}
 use Rattle.rules.proofs.Numbers.{RefusedIn, refused-in, allMembers, member-widen, first-in, chosen-in, inputNumbers, input-listed, loopNumbers, sampled-in, rowRefusals, row-in, passes-in, closings-in, fanRefusals, fan-in}
 
@@ -33,19 +33,19 @@ then-in ns (gives s) step p q = q s
 -- ---- what a refusal leaves
 
 job-left-listed : (l : Lengths) (ns : List ℕ) (x : Outcome State) → RefusedIn ns x → Listed (0 ∷ ns) (zeros l) (jobLeft l x)
-unfolding jobLeft member RefusedIn
-job-left-listed l ns (refused n) p = record { listed = or-true-right (eqb n 0) (member n ns) (p n refl); refusal = λ f. refl }
-job-left-listed l ns (gives s) p = record { listed = refl; refusal = λ f. absurd (f refl) }
+unfolding jobLeft written member RefusedIn
+job-left-listed l ns (refused n) p = record { listed = or-true-right (eqb n 0) (member n ns) (p n refl); refusal = λ f. refl; counts = refl }
+job-left-listed l ns (gives s) p = record { listed = refl; refusal = λ f. absurd (f refl); counts = refl }
 
 state-left-listed : (b : Held) (ns : List ℕ) (x : Outcome State) → RefusedIn ns x → Listed (0 ∷ ns) b (stateLeft b x)
-unfolding stateLeft member RefusedIn
-state-left-listed b ns (refused n) p = record { listed = or-true-right (eqb n 0) (member n ns) (p n refl); refusal = λ f. refl }
-state-left-listed b ns (gives s) p = record { listed = refl; refusal = λ f. absurd (f refl) }
+unfolding stateLeft written member RefusedIn
+state-left-listed b ns (refused n) p = record { listed = or-true-right (eqb n 0) (member n ns) (p n refl); refusal = λ f. refl; counts = refl }
+state-left-listed b ns (gives s) p = record { listed = refl; refusal = λ f. absurd (f refl); counts = refl }
 
 -- ---- the job
 
 abbrev pub jobRefusals : List ℕ
-jobRefusals = 1 ∷ 2 ∷ 3 ∷ 4 ∷ 5 ∷ 6 ∷ 7 ∷ 10 ∷ 8 ∷ 9 ∷ 21 ∷ []
+jobRefusals = drop 1 jobNumbers
 
 loop-job : allMembers loopNumbers jobRefusals ≡ true
 unfolding allMembers member
@@ -59,7 +59,7 @@ input-job : allMembers (0 ∷ inputNumbers) (0 ∷ jobRefusals) ≡ true
 unfolding allMembers member
 input-job = refl
 
-paved-in : (j : Job) → RefusedIn jobRefusals (paved j)
+pub paved-in : (j : Job) → RefusedIn jobRefusals (paved j)
 unfolding paved
 paved-in j =
     then-in jobRefusals _ closings
@@ -68,15 +68,41 @@ paved-in j =
     (λ s. widen (closings s) (21 ∷ []) jobRefusals full-job (closings-in s))
 
 -- what a job comes to, before it is written
-abbrev pub jobOutcome : Job → Lengths → Outcome State
+abbrev jobOutcome : Job → Lengths → Outcome State
 jobOutcome j l = cond (eqb (inputNumber j l) 0) (paved j) (refused (inputNumber j l))
 
-pub job-in : (j : Job) (l : Lengths) → RefusedIn jobRefusals (jobOutcome j l)
+job-in : (j : Job) (l : Lengths) → RefusedIn jobRefusals (jobOutcome j l)
 job-in j l = chosen-in (inputNumber j l) (paved j) jobRefusals (member-widen (inputNumber j l) (0 ∷ inputNumbers) (0 ∷ jobRefusals) input-job (input-listed j l)) (paved-in j)
 
 job-listed : (j : Job) (l : Lengths) → Listed jobNumbers (zeros l) (jobCall j l)
 unfolding jobCall onJob
 job-listed j l = job-left-listed l jobRefusals (jobOutcome j l) (job-in j l)
+
+-- ---- the sample
+
+abbrev sampleRefusals : List ℕ
+sampleRefusals = drop 1 sampleNumbers
+
+-- what a sample comes to, before it is written
+abbrev sampleOutcome : Job → Lengths → Outcome State
+sampleOutcome j l = cond (eqb (inputNumber j l) 0) (sampled j) (refused (inputNumber j l))
+
+loop-sample : allMembers loopNumbers sampleRefusals ≡ true
+unfolding allMembers member
+loop-sample = refl
+
+input-sample : allMembers (0 ∷ inputNumbers) (0 ∷ sampleRefusals) ≡ true
+unfolding allMembers member
+input-sample = refl
+
+sample-in : (j : Job) (l : Lengths) → RefusedIn sampleRefusals (sampleOutcome j l)
+sample-in j l =
+    chosen-in (inputNumber j l) (sampled j) sampleRefusals (member-widen (inputNumber j l) (0 ∷ inputNumbers) (0 ∷ sampleRefusals) input-sample (input-listed j l))
+    (widen (sampled j) loopNumbers sampleRefusals loop-sample (sampled-in j))
+
+sample-listed : (j : Job) (l : Lengths) → Listed sampleNumbers (zeros l) (sampleCall j l)
+unfolding sampleCall onJob
+sample-listed j l = job-left-listed l sampleRefusals (sampleOutcome j l) (sample-in j l)
 
 -- ---- the calls on a given state
 
@@ -85,7 +111,7 @@ unfolding allMembers member
 own25 = refl
 
 -- the number that the job's input and the state give
-abbrev pub stateNumber : Job → Held → ℕ
+abbrev stateNumber : Job → Held → ℕ
 stateNumber j b = cond (eqb (inputNumber j (lengths b)) 0) (firstOf (test 25 (wrongState b) ∷ [])) (inputNumber j (lengths b))
 
 state-in : (j : Job) (b : Held) (ns : List ℕ) → allMembers (0 ∷ inputNumbers) (0 ∷ ns) ≡ true → allMembers (0 ∷ 25 ∷ []) (0 ∷ ns) ≡ true → member (stateNumber j b) (0 ∷ ns) ≡ true
@@ -101,7 +127,7 @@ unfolding onState
 state-listed j b ns step h k p = state-left-listed b ns _ (chosen-in (stateNumber j b) (step (reading b)) ns (state-in j b ns h k) (p (reading b)))
 
 abbrev rowOnly : List ℕ
-rowOnly = 1 ∷ 2 ∷ 3 ∷ 4 ∷ 5 ∷ 6 ∷ 25 ∷ 20 ∷ 22 ∷ 21 ∷ []
+rowOnly = drop 1 rowNumbers
 
 row-widens : allMembers rowRefusals rowOnly ≡ true
 unfolding allMembers member
@@ -124,7 +150,7 @@ unfolding rowCall allMembers member
 row-listed j li b = state-listed j b rowOnly (rowAt j li) refl refl (row-at-in j li)
 
 abbrev closeOnly : List ℕ
-closeOnly = 1 ∷ 2 ∷ 3 ∷ 4 ∷ 5 ∷ 6 ∷ 25 ∷ 21 ∷ []
+closeOnly = drop 1 closeNumbers
 
 close-widens : allMembers (21 ∷ []) closeOnly ≡ true
 unfolding allMembers member
@@ -135,7 +161,7 @@ unfolding closeCall allMembers member
 close-listed j b = state-listed j b closeOnly closings refl refl (λ s. widen (closings s) (21 ∷ []) closeOnly close-widens (closings-in s))
 
 abbrev fanOnly : List ℕ
-fanOnly = 1 ∷ 2 ∷ 3 ∷ 4 ∷ 5 ∷ 6 ∷ 25 ∷ 23 ∷ 24 ∷ 26 ∷ 21 ∷ 27 ∷ []
+fanOnly = drop 1 fanNumbers
 
 fan-widens : allMembers fanRefusals fanOnly ≡ true
 unfolding allMembers member
@@ -146,4 +172,4 @@ unfolding fanCall allMembers member
 fan-listed j b = state-listed j b fanOnly (fan j) refl refl (λ s. widen (fan j s) fanRefusals fanOnly fan-widens (fan-in j s))
 
 pub demand-1 : Demand1
-demand-1 = record { job = job-listed; row = row-listed; close = close-listed; fan = fan-listed }
+demand-1 = record { job = job-listed; sample = sample-listed; row = row-listed; close = close-listed; fan = fan-listed }

@@ -1,17 +1,21 @@
 -- The demands, over what the calls return. Statements only; proofs/Demands.antt proves them.
-use Prim.Native.Nat.{ℕ, _≤_, _<_, _*_}
+use Prim.Native.Nat.{ℕ, _+_, _*_, _≤_, _<_}
 use mathlib.Core.Path.{_≡_}
 use mathlib.Core.Bool.{true}
 use mathlib.Core.Logic.{_⊎_}
 use mathlib.Core.List.{List, [], _∷_}
 use lib.ListN.{length, getD, take}
-use Rattle.state.specs.State.{State, Held, Lengths, quad, zeros, reading}
+use Rattle.float.specs.Helpers.{decimal}
+use Rattle.state.specs.State.{State, Held, Lengths, quad, nodes, zeros, reading}
+use Rattle.state.specs.Coordinates.{wrongCoordinate}
 use Rattle.input.specs.Job.{Job}
 use Rattle.state.specs.Outcome.{Outcome, refused, gives}
-use Rattle.sampling.specs.Sample.{sampled}
+use Rattle.sampling.specs.Sample.{sampled, sampleCall}
 use Rattle.rules.specs.Checks.{quadPasses}
-use Rattle.state.specs.Given.{member}
-use Rattle.state.specs.Call.{Left, numberOf}
+use Rattle.rules.specs.Row.{front, nextRow}
+use Rattle.state.specs.Given.{member, wrongState}
+use Rattle.state.specs.Call.{Left, numberOf, answerCounts}
+use Rattle.rules.specs.Passes.{somePasses}
 use Rattle.rules.specs.RowCall.{rowCall}
 use Rattle.rules.specs.Calls.{jobCall, closeCall, fanCall}
 use Rattle.pairs.specs.Pairs.{pairCount}
@@ -20,6 +24,9 @@ use Rattle.pairs.specs.Pairs.{pairCount}
 
 abbrev pub jobNumbers : List ℕ
 jobNumbers = 0 ∷ 1 ∷ 2 ∷ 3 ∷ 4 ∷ 5 ∷ 6 ∷ 7 ∷ 10 ∷ 8 ∷ 9 ∷ 21 ∷ []
+
+abbrev pub sampleNumbers : List ℕ
+sampleNumbers = 0 ∷ 1 ∷ 2 ∷ 3 ∷ 4 ∷ 5 ∷ 6 ∷ 7 ∷ 10 ∷ 8 ∷ 9 ∷ []
 
 abbrev pub rowNumbers : List ℕ
 rowNumbers = 0 ∷ 1 ∷ 2 ∷ 3 ∷ 4 ∷ 5 ∷ 6 ∷ 25 ∷ 20 ∷ 22 ∷ 21 ∷ []
@@ -30,14 +37,16 @@ closeNumbers = 0 ∷ 1 ∷ 2 ∷ 3 ∷ 4 ∷ 5 ∷ 6 ∷ 25 ∷ 21 ∷ []
 abbrev pub fanNumbers : List ℕ
 fanNumbers = 0 ∷ 1 ∷ 2 ∷ 3 ∷ 4 ∷ 5 ∷ 6 ∷ 25 ∷ 23 ∷ 24 ∷ 26 ∷ 21 ∷ 27 ∷ []
 
--- an answer's number is listed, and a refusal leaves `before`
+-- an answer's number is listed, a refusal leaves `before`, and the counts that the caller then holds are the answer's
 pub record Listed (numbers : List ℕ) (before : Held) (a : Left) : Type 0 where
   pub listed : member (numberOf a) numbers ≡ true
   pub refusal : (numberOf a ≡ 0 → ⊥) → a .held ≡ before
+  pub counts : a .held .counts ≡ answerCounts (before .counts) (a .answer)
 
--- a refused job leaves zeros in each buffer; a refused row, closing or fan leaves its state unchanged
+-- a refused job or sample leaves zeros in each buffer; a refused row, closing or fan leaves its state unchanged
 pub record Demand1 : Type 0 where
   pub job : (j : Job) (l : Lengths) → Listed jobNumbers (zeros l) (jobCall j l)
+  pub sample : (j : Job) (l : Lengths) → Listed sampleNumbers (zeros l) (sampleCall j l)
   pub row : (j : Job) (li : ℕ) (b : Held) → Listed rowNumbers b (rowCall j li b)
   pub close : (j : Job) (b : Held) → Listed closeNumbers b (closeCall j b)
   pub fan : (j : Job) (b : Held) → Listed fanNumbers b (fanCall j b)
@@ -59,6 +68,36 @@ sampledLoops (gives s) = s .fronts
 pub record Tiled (loops : List (List ℕ)) (s : State) : Type 0 where
   pub corners : (i : ℕ) → i < length (s .quads) → quadPasses (s .points) (getD (s .quads) i (quad 0 0 0 0)) ≡ true
   pub pairs : (a b : ℕ) → (pairCount loops s a b ≡ 0) ⊎ (pairCount loops s a b ≡ 2)
+
+-- Any way of using the calls: an accepted job or an accepted sample, then rows, closings and fans of whatever jobs and front numbers, granted or refused,
+-- each given back what the caller holds, counts and all. The loops are those of the job or sample that it began with.
+pub data Reached : List (List ℕ) → Held → Type 0 where
+  byJob : (j : Job) (l : Lengths) → numberOf (jobCall j l) ≡ 0 → Reached (sampledLoops (sampled j)) (jobCall j l .held)
+  bySample : (j : Job) (l : Lengths) → numberOf (sampleCall j l) ≡ 0 → Reached (sampledLoops (sampled j)) (sampleCall j l .held)
+  byRow : {loops : List (List ℕ)} {b : Held} (j : Job) (li : ℕ) → Reached loops b → Reached loops (rowCall j li b .held)
+  byClosing : {loops : List (List ℕ)} {b : Held} (j : Job) → Reached loops b → Reached loops (closeCall j b .held)
+  byFan : {loops : List (List ℕ)} {b : Held} (j : Job) → Reached loops b → Reached loops (fanCall j b .held)
+
+-- a row lays one quad and adds one point for each of the n nodes of the front that it replaces, and sets laid to the quads after it
+pub record OneForEach (n : ℕ) (s t : State) : Type 0 where
+  pub quads : length (t .quads) ≡ length (s .quads) + n
+  pub points : nodes t ≡ nodes s + n
+  pub laid : t .laid ≡ length (t .quads)
+
+-- what an accepted job left, b, came of the sampled state and of the state that the passes left of it, before any closing
+pub record Laid (j : Job) (b : Held) : Type 0 where
+  pub start : State
+  pub sampledIs : sampled j ≡ gives start
+  pub rows : State
+  pub passesAre : somePasses j (j .options .«max_row_rounds») start ≡ gives rows
+  -- the answer's points are those of sampling and rows, the sampled ones first, bit for bit
+  pub points : reading b .points ≡ rows .points
+  pub sampledFirst : take (length (start .points)) (reading b .points) ≡ start .points
+  -- the quads laid by rows come first in the list, and laid is their number
+  pub laidIs : b .counts .laid ≡ length (rows .quads)
+  pub quadsFirst : take (b .counts .laid) (reading b .quads) ≡ rows .quads
+  -- one for each node of each front replaced: as many as the points that the rows added
+  pub oneForEach : nodes rows ≡ nodes start + length (rows .quads)
 
 -- the same job under another pass limit
 abbrev pub underLimit : Job → ℕ → Job
@@ -89,5 +128,12 @@ pub record Demand3 : Type 0 where
       → Begins (jobCall (underLimit j p) l .held) (jobCall (underLimit j q) l .held)
   -- in each answer
   pub answer : (j : Job) (l : Lengths) → numberOf (jobCall j l) ≡ 0 → Tiled (sampledLoops (sampled j)) (reading (jobCall j l .held))
-  -- and after any fan of it, granted or refused
+  -- after any fan of it, granted or refused
   pub fan : (j k : Job) (l : Lengths) → numberOf (jobCall j l) ≡ 0 → Tiled (sampledLoops (sampled j)) (reading (fanCall k (jobCall j l .held) .held))
+  -- and after any rows, closings and fans, of an accepted sample too
+  pub anyUse : {loops : List (List ℕ)} {b : Held} → Reached loops b → Tiled loops (reading b)
+  -- what the calls left is taken back: number 25 finds nothing in it, unless a coordinate
+  pub takenBack : {loops : List (List ℕ)} {b : Held} → Reached loops b → wrongState b ≡ wrongCoordinate (decimal 1000000000 0) (reading b .points)
+  -- the quads laid by rows: those of a row, and those of an accepted job
+  pub row : (j : Job) (s : State) (li : ℕ) (t : State) → nextRow j s li ≡ gives t → OneForEach (length (front s li)) s t
+  pub laid : (j : Job) (l : Lengths) → numberOf (jobCall j l) ≡ 0 → Laid j (jobCall j l .held)

@@ -24,7 +24,8 @@ use Rattle.rules.specs.Projecting.{projectionNumber, projectionValues}
 use Rattle.rules.specs.Checks.{every, quadPasses, projection, newPoints, newQuads, allProject, allInside, allOffBoundary, allLongEnough, allClearOfFronts, allCornersPass}
 use Rattle.rules.specs.Simple.{isSimple}
 use Rattle.rules.specs.Row.{front, restStands, newOf, rowStands, rowNumber, committed, nextRow}
-use Rattle.rules.proofs.Lists.{and-left, and-right, every-at}
+use Rattle.rules.proofs.Lists.{and-left, and-right}
+use Rattle.rules.proofs.Every.{every-at}
 
 values-length : (x : Projection) → eqb (projectionNumber x) 0 ≡ true → length (projectionValues x) ≡ 2
 values-length (At x y) e = refl
