@@ -9,12 +9,7 @@ use state::outside;
 use state::sum_of;
 use state::wrong_coordinate;
 
-fn wrong_lengths(
-    points: usize,
-    quads: usize,
-    front_nodes: usize,
-    front_lengths: usize,
-) -> bool
+fn wrong_lengths(points: usize, quads: usize, front_nodes: usize, front_lengths: usize) -> bool
     ensures { λ r. ⌜ r ≡ inputs.wrongLengths (lengthsOf points quads «front_nodes» «front_lengths») ⌝ }
 {
     if points != 8192 {

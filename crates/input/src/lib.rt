@@ -1,6 +1,7 @@
 // A job's input: the options, and the numbers 1 to 6 of document 01. Every call tests its job by `input_number`.
 ghost use mathlib.Core.Path.{_≡_};
 ghost use Rattle.input.specs.Defaults as options;
+
 mod input;
 
 pub use input::input_number;

@@ -88,7 +88,7 @@ put-row-quads-requires c κs =
     let r = room e in
     let fl = f .front-at .ensures .1 in
     let lo : length (at-nodes-of .nodes-of .result .now) ≡ f .front-at .result .len
-        = ap length (old-is at-nodes-of) ∙ sym (cut-length (sizesOf (given e)) (e .args .front-nodes .now) (e .args .li) (r .front) (fits (given e) (sound-counted (given e) s)) _ fl) in
+    = ap length (old-is at-nodes-of) ∙ sym (cut-length (sizesOf (given e)) (e .args .front-nodes .now) (e .args .li) (r .front) (fits (given e) (sound-counted (given e) s)) _ fl) in
     omega arith
 
 put-numbers-requires : tie.Need-put-numbers-requires
