@@ -13,19 +13,21 @@ use std::time::Instant;
 extern "C" {
     fn timing_next_row(
         coords: *const f64, n: usize, lengths: *const u16, loops: usize, h: f64, corner_margin: f64, min_edge_fraction: f64,
-        front_gap: f64, max_row_rounds: u64, seam: bool, front: u64, points: *mut f64, np: usize, quads: *mut u16, nq: usize,
-        front_nodes: *mut u16, nn: usize, front_lengths: *mut u16, nl: usize, counts: *mut u64, nc: usize,
+        front_gap: f64, max_row_rounds: u64, seam: bool, front: usize, points: *mut f64, np: usize, quads: *mut u16, nq: usize,
+        front_nodes: *mut u16, nn: usize, front_lengths: *mut u16, nl: usize, point_count: usize, quad_count: usize, front_count: usize,
+        row_quads: usize, core_quads: usize, row_rounds: usize, passes_begun: usize, laid: usize,
     ) -> u32;
 }
 
 /// The port's `next_row`, which tests nothing: the buffers hold a sound state and zeros behind its counts, and the front is there.
 fn next_row(job: &PortJob, front: u64, b: &mut Buffers, counts: &mut [u64]) -> u32 {
+    let c = |i: usize| counts[i] as usize;
     let o = &job.options;
     unsafe {
         timing_next_row(
             job.coords.as_ptr(), job.coords.len(), job.lengths.as_ptr(), job.lengths.len(), job.h, o.corner_margin, o.min_edge_fraction,
-            o.front_gap, o.max_row_rounds as u64, o.seam, front, b.points.as_mut_ptr(), b.points.len(), b.quads.as_mut_ptr(), b.quads.len(),
-            b.front_nodes.as_mut_ptr(), b.front_nodes.len(), b.front_lengths.as_mut_ptr(), b.front_lengths.len(), counts.as_mut_ptr(), counts.len(),
+            o.front_gap, o.max_row_rounds as u64, o.seam, front as usize, b.points.as_mut_ptr(), b.points.len(), b.quads.as_mut_ptr(), b.quads.len(),
+            b.front_nodes.as_mut_ptr(), b.front_nodes.len(), b.front_lengths.as_mut_ptr(), b.front_lengths.len(), c(0), c(1), c(2), c(3), c(4), c(5), c(6), c(7),
         )
     }
 }
