@@ -122,23 +122,6 @@ pub fn sample_loops(
             &mut spans,
         );
     }
-    if coords.len() <= 2048 {
-        let mut buffer = [0.0; 2048];
-        let mut lengths = [0.0; 1024];
-        let mut spans = [0.0; 1024];
-        return loops_in_turn(
-            coords,
-            loop_lengths,
-            h,
-            corner_margin,
-            points,
-            front_nodes,
-            front_lengths,
-            &mut buffer,
-            &mut lengths,
-            &mut spans,
-        );
-    }
     let mut buffer = [0.0; 4096];
     let mut lengths = [0.0; 2048];
     let mut spans = [0.0; 2048];
