@@ -23,11 +23,6 @@ pub short-is : ofBits binary64 0x3C32_725D_D1D2_43AC ≡ decimal 1 18
 unfolding round ofBits
 short-is = refl
 
--- 0.08715574274765817
-pub limit-is : ofBits binary64 4590944653792149762 ≡ decimal 8715574274765817 17
-unfolding round ofBits
-limit-is = refl
-
 -- half of 0
 pub half-zero-is : div binary64 (decimal 0 0) (decimal 2 0) ≡ decimal 0 0
 unfolding div round

@@ -116,9 +116,9 @@ sharpAt r i =
 unfoldable pub cornerValue : Point → Point → Point → Float
 cornerValue before here after = cross (toward here after) (toward here before) ⊘ (sideLength here after ⊗ sideLength here before)
 
--- document 01: finite and above 0.08715574274765817
-unfoldable pub cornerPasses : Float → Bool
-cornerPasses v = isFinite v && lt (decimal 8715574274765817 17) v
+-- document 01: finite and above the limit
+unfoldable pub cornerPasses : Float → Float → Bool
+cornerPasses limit v = isFinite v && lt limit v
 
 -- ---- a quad, by its four points in order
 
@@ -127,9 +127,10 @@ unfoldable pub quadArea : Point → Point → Point → Point → Float
 quadArea a b c d = (decimal 0 0 ⊕ areaTerm a b ⊕ areaTerm b c ⊕ areaTerm c d ⊕ areaTerm d a) ⊘ decimal 2 0
 
 -- the corner test: every corner value is finite and above the limit
-unfoldable pub cornersPass : Point → Point → Point → Point → Bool
-cornersPass a b c d =
-    cornerPasses (cornerValue d a b) && cornerPasses (cornerValue a b c) && cornerPasses (cornerValue b c d) && cornerPasses (cornerValue c d a)
+unfoldable pub cornersPass : Float → Point → Point → Point → Point → Bool
+cornersPass limit a b c d =
+    cornerPasses limit (cornerValue d a b) && cornerPasses limit (cornerValue a b c) && cornerPasses limit (cornerValue b c d)
+    && cornerPasses limit (cornerValue c d a)
 
 -- the least corner value, as a fold of `f64::min` from infinity
 unfoldable pub leastCorner : Point → Point → Point → Point → Float

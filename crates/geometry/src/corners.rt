@@ -28,13 +28,20 @@ fn corner_value(before: Point, here: Point, after: Point, back: f64, forth: f64)
 }
 
 // Whether a quad's corner has a finite value above the limit.
-pub fn corner_passes(before: Point, here: Point, after: Point, back: f64, forth: f64) -> bool
+pub fn corner_passes(
+    before: Point,
+    here: Point,
+    after: Point,
+    back: f64,
+    forth: f64,
+    limit: f64,
+) -> bool
     requires { ⌜ (back ≡ sideLength here before) × (forth ≡ sideLength here after) ⌝ }
-    ensures { λ r. ⌜ r ≡ cornerPasses (cornerValue before here after) ⌝ }
+    ensures { λ r. ⌜ r ≡ cornerPasses limit (cornerValue before here after) ⌝ }
 {
     let v = corner_value(before, here, after, back, forth);
     if float::is_finite(v) {
-        return v > 0.08715574274765817;
+        return v > limit;
     }
     false
 }
@@ -49,31 +56,32 @@ pub fn corners_pass_with(
     bc: f64,
     cd: f64,
     da: f64,
+    limit: f64,
 ) -> bool
     requires { ⌜ (ab ≡ sideLength a b) × (bc ≡ sideLength b c) × (cd ≡ sideLength c d) × (da ≡ sideLength d a) ⌝ }
-    ensures { λ r. ⌜ r ≡ cornersPass a b c d ⌝ }
+    ensures { λ r. ⌜ r ≡ cornersPass limit a b c d ⌝ }
 {
-    if !corner_passes(d, a, b, da, ab) {
+    if !corner_passes(d, a, b, da, ab, limit) {
         return false;
     }
-    if !corner_passes(a, b, c, ab, bc) {
+    if !corner_passes(a, b, c, ab, bc, limit) {
         return false;
     }
-    if !corner_passes(b, c, d, bc, cd) {
+    if !corner_passes(b, c, d, bc, cd, limit) {
         return false;
     }
-    corner_passes(c, d, a, cd, da)
+    corner_passes(c, d, a, cd, da, limit)
 }
 
 // The corner test of the quad `a b c d`. A side's length, the same from either end, is taken once.
-pub fn corners_pass(a: Point, b: Point, c: Point, d: Point) -> bool
-    ensures { λ r. ⌜ r ≡ cornersPass a b c d ⌝ }
+pub fn corners_pass(a: Point, b: Point, c: Point, d: Point, limit: f64) -> bool
+    ensures { λ r. ⌜ r ≡ cornersPass limit a b c d ⌝ }
 {
     let ab = side_length(a, b);
     let bc = side_length(b, c);
     let cd = side_length(c, d);
     let da = side_length(d, a);
-    corners_pass_with(a, b, c, d, ab, bc, cd, da)
+    corners_pass_with(a, b, c, d, ab, bc, cd, da, limit)
 }
 
 // The least corner value of the quad `a b c d`.

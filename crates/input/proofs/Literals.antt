@@ -17,3 +17,8 @@ million-is = refl
 pub hundred-is : ofBits binary64 0x4059000000000000 ≡ decimal 100 0
 unfolding round ofBits
 hundred-is = refl
+
+-- 0.08715574274765817
+pub limit-is : ofBits binary64 4590944653792149762 ≡ decimal 8715574274765817 17
+unfolding round ofBits
+limit-is = refl

@@ -1,6 +1,7 @@
 // A job's input: the options, and the numbers 1 to 6 of document 01. Every call tests its job by `input_number`.
 ghost use mathlib.Core.Path.{_≡_};
 ghost use Rattle.input.specs.Defaults as options;
+ghost use Rattle.input.specs.Limit.{cornerLimit};
 
 mod input;
 
@@ -23,6 +24,8 @@ impl Options {
     pub const FRONT_GAP: f64 = 1.2;
 
     pub const MAX_ROW_ROUNDS: u64 = 32;
+
+    pub const CORNER_LIMIT: f64 = 0.08715574274765817;
 }
 
 // The default options, seam false: the constants of `Options` are document 01's numbers.
@@ -36,4 +39,11 @@ pub fn defaults() -> Options
         max_row_rounds: Options::MAX_ROW_ROUNDS,
         seam: false,
     }
+}
+
+// What every corner value of a quad has to be above.
+pub fn corner_limit() -> f64
+    ensures { λ r. ⌜ r ≡ cornerLimit ⌝ }
+{
+    Options::CORNER_LIMIT
 }

@@ -46,14 +46,14 @@ point-behind p q m k e =
     rw (y, x, getD-append-add p q (k * 2) nan, getD-append-add p q (k * 2 + 1) nan)
 
 -- points that come in pairs, and a front that names points that are there
-module _ (pts : List Float) (old : List ℕ) (row : List Float) (even : length pts % 2 ≡ 0) (below : (i : ℕ) → i < length old → getD old i 0 * 2 + 1 < length pts) where
+module _ (limit : Float) (pts : List Float) (old : List ℕ) (row : List Float) (even : length pts % 2 ≡ 0) (below : (i : ℕ) → i < length old → getD old i 0 * 2 + 1 < length pts) where
   abbrev n : ℕ
   n = length old
 
   abbrev between : ℕ → Bool
-  between i = cornersPass (pointAt pts (getD old i 0)) (pointAt pts (getD old (next n i) 0)) (pointAt row (next n i)) (pointAt row i)
+  between i = cornersPass limit (pointAt pts (getD old i 0)) (pointAt pts (getD old (next n i) 0)) (pointAt row (next n i)) (pointAt row i)
 
-  corner-at : (i : ℕ) → i < n → quadPasses (pts ++ row) (getD (newQuads pts old) i (quad 0 0 0 0)) ≡ between i
+  corner-at : (i : ℕ) → i < n → quadPasses limit (pts ++ row) (getD (newQuads pts old) i (quad 0 0 0 0)) ≡ between i
   unfolding quadPasses
   corner-at i l =
       let k = next-below n i l in
@@ -66,5 +66,5 @@ module _ (pts : List Float) (old : List ℕ) (row : List Float) (even : length p
         point-behind pts row (length pts / 2) i m,
       )
 
-  pub corners-agree : allCornersPass pts old row ≡ cornersBetween pts old row n
+  pub corners-agree : allCornersPass limit pts old row ≡ cornersBetween limit pts old row n
   corners-agree = every-same _ between n corner-at

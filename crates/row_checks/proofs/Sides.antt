@@ -16,8 +16,8 @@ use Rattle.pairs.proofs.Sides.{next-cases}
 abbrev pub longEnough : Float → List Float → ℕ → ℕ → Bool
 longEnough least row n i = not (lt (sideLength (pointAt row i) (pointAt row (next n i))) least)
 
-abbrev pub cornersGood : List Float → List ℕ → List Float → ℕ → ℕ → Bool
-cornersGood points old row n i = cornersPass (pointAt points (getD old i 0)) (pointAt points (getD old (next n i) 0)) (pointAt row (next n i)) (pointAt row i)
+abbrev pub cornersGood : Float → List Float → List ℕ → List Float → ℕ → ℕ → Bool
+cornersGood limit points old row n i = cornersPass limit (pointAt points (getD old i 0)) (pointAt points (getD old (next n i) 0)) (pointAt row (next n i)) (pointAt row i)
 
 -- the place after i, where it is not the first again
 pub next-inner : (n i : ℕ) {k : ℕ} → i < n → k ≡ next n i → i + 1 < n → k ≡ i + 1
@@ -27,7 +27,7 @@ pub side-of : (row : List Float) (n i : ℕ) {j : ℕ} {a b : Point} {d : Float}
     → d ≡ sideLength (pointAt row i) (pointAt row (next n i))
 side-of row n i hd ha hb hj = rw (← hj, ← ha, ← hb) hd
 
-pub corners-of : (points row : List Float) (old : List ℕ) (n i : ℕ) {j : ℕ} {a b c d : Point} {r t : Bool} → r ≡ cornersPass a b c d
+pub corners-of : (limit : Float) (points row : List Float) (old : List ℕ) (n i : ℕ) {j : ℕ} {a b c d : Point} {r t : Bool} → r ≡ cornersPass limit a b c d
     → a ≡ pointAt points (getD old i 0) → b ≡ pointAt points (getD old j 0) → c ≡ pointAt row j → d ≡ pointAt row i → j ≡ next n i → r ≡ t
-    → cornersGood points old row n i ≡ t
-corners-of points row old n i hr ha hb hc hd hj ht = rw (← hj, ← ha, ← hb, ← hc, ← hd, ← hr) ht
+    → cornersGood limit points old row n i ≡ t
+corners-of limit points row old n i hr ha hb hc hd hj ht = rw (← hj, ← ha, ← hb, ← hc, ← hd, ← hr) ht

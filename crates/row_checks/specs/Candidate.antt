@@ -21,6 +21,6 @@ abbrev pub tried : ℕ → Tried
 tried n = cond (eqb n 0) Stands (Refused n)
 
 -- the corner test of each of n quads, on the old nodes' points and the new points where they stand (`allCornersPass`)
-abbrev pub cornersBetween : List Float → List ℕ → List Float → ℕ → Bool
-cornersBetween pts old row n =
-    every (λ i. cornersPass (pointAt pts (getD old i 0)) (pointAt pts (getD old (next n i) 0)) (pointAt row (next n i)) (pointAt row i)) n
+abbrev pub cornersBetween : Float → List Float → List ℕ → List Float → ℕ → Bool
+cornersBetween limit pts old row n =
+    every (λ i. cornersPass limit (pointAt pts (getD old i 0)) (pointAt pts (getD old (next n i) 0)) (pointAt row (next n i)) (pointAt row i)) n

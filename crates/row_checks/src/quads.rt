@@ -8,10 +8,17 @@ ghost use Rattle.rules.specs.Checks.{allLongEnough};
 ghost use Rattle.row_checks.specs.Candidate.{cornersBetween};
 
 // No new side is shorter than `least`, and every quad between the old nodes and the new points passes the corner test.
-pub fn all_quads_stand(points: &[f64], old: &[u16], row: &[f64], n: usize, least: f64) -> bool
+pub fn all_quads_stand(
+    points: &[f64],
+    old: &[u16],
+    row: &[f64],
+    n: usize,
+    least: f64,
+    limit: f64,
+) -> bool
     requires { ⌜ (0 < n) × (n * 2 ≤ length (now row)) × (n ≡ length (now old)) ⌝ }
     requires { ⌜ ((i : ℕ) → i < length (now old) → getD (now old) i 0 * 2 + 1 < length (now points)) ⌝ }
-    ensures { λ r. ⌜ r ≡ (allLongEnough least (now (row .entry)) n && cornersBetween (now (points .entry)) (now (old .entry)) (now (row .entry)) n) ⌝ }
+    ensures { λ r. ⌜ r ≡ (allLongEnough least (now (row .entry)) n && cornersBetween limit (now (points .entry)) (now (old .entry)) (now (row .entry)) n) ⌝ }
 {
     let mut a = geometry::node_point(points, old, 0);
     let mut d = geometry::point_at(row, 0);
@@ -26,7 +33,7 @@ pub fn all_quads_stand(points: &[f64], old: &[u16], row: &[f64], n: usize, least
         }
         let old_side = geometry::side_length(a, b);
         let next_rung = geometry::side_length(b, c);
-        if !geometry::corners_pass_with(a, b, c, d, old_side, next_rung, new_side, rung) {
+        if !geometry::corners_pass_with(a, b, c, d, old_side, next_rung, new_side, rung, limit) {
             return false;
         }
         a = b;

@@ -80,7 +80,8 @@ fn rest_stands(
         return false;
     }
     let old = nodes_of(front_nodes, start, n);
-    if !all_quads_stand(points, old, row, n, options.min_edge_fraction * h) {
+    let least = options.min_edge_fraction * h;
+    if !all_quads_stand(points, old, row, n, least, input::corner_limit()) {
         return false;
     }
     if !clear_of_fronts(

@@ -19,6 +19,7 @@ use Rattle.state.proofs.Basics.{or-false, or-no}
 use Rattle.state.proofs.Repeating.{from-both}
 use Rattle.state.proofs.Written.{reading-written}
 use Rattle.state.proofs.Fitting.{pairs-lengths, from-none}
+use Rattle.input.specs.Limit.{cornerLimit}
 use Rattle.rules.specs.Closing.{closure, keptFronts}
 use Rattle.pairs.proofs.Occurs.{occursInAll, occurs-none, occurs-joined, none-repeated}
 use Rattle.rules.proofs.Lists.{below-or-from}
@@ -40,7 +41,7 @@ pub record Allowed (s : State) : Type 0 where
 
 -- what holds of a state through sampling, rows, closings and fans, over the sampled loops
 pub record Stands (loops : List (List ℕ)) (s : State) : Type 0 where
-  pub good : Good loops (s .points) (s .quads) (s .fronts)
+  pub good : Good cornerLimit loops (s .points) (s .quads) (s .fronts)
   pub allowed : Allowed s
 
 -- ---- fronts replaced, and fronts taken out
@@ -57,15 +58,15 @@ pub record Fewer (fs gs : List (List ℕ)) : Type 0 where
   pub nodes : length (joined gs) ≤ length (joined fs)
   pub three : tooShort fs ≡ false → tooShort gs ≡ false
 
-pub kept-fewer : (pts : List Float) (fs : List (List ℕ)) → Fewer fs (keptFronts pts fs)
+pub kept-fewer : (limit : Float) (pts : List Float) (fs : List (List ℕ)) → Fewer fs (keptFronts limit pts fs)
 unfolding keptFronts joined some
-kept-fewer pts [] = record { fronts = omega arith; nodes = omega arith; three = λ e. e }
-kept-fewer pts (f ∷ fs) = go (eqb (length (closure pts f)) 0) (kept-fewer pts fs)
+kept-fewer limit pts [] = record { fronts = omega arith; nodes = omega arith; three = λ e. e }
+kept-fewer limit pts (f ∷ fs) = go (eqb (length (closure limit pts f)) 0) (kept-fewer limit pts fs)
   where
-    go : (t : Bool) → Fewer fs (keptFronts pts fs) → Fewer (f ∷ fs) (cond t (f ∷ keptFronts pts fs) (keptFronts pts fs))
+    go : (t : Bool) → Fewer fs (keptFronts limit pts fs) → Fewer (f ∷ fs) (cond t (f ∷ keptFronts limit pts fs) (keptFronts limit pts fs))
     go true k = record {
       fronts = omega (arith, k .fronts);
-      nodes = omega (arith, k .nodes, length-append f (joined fs), length-append f (joined (keptFronts pts fs)));
+      nodes = omega (arith, k .nodes, length-append f (joined fs), length-append f (joined (keptFronts limit pts fs)));
       three = λ e. let p = or-false (ltb (length f) 3) (tooShort fs) e in rw (p .0) (k .three (p .1));
     }
     go false k = record {
@@ -91,7 +92,7 @@ fronts-below p fs low =
     elim (below-or-from a p) [ inl h ↦ h | inr h ↦ absurd (occurs-none a (joined fs) i (occurs-joined a fs ∙ low a h) l refl) ])
 
 module _ (loops : List (List ℕ)) (s : State) (stands : Stands loops s) where
-  abbrev good : Good loops (s .points) (s .quads) (s .fronts)
+  abbrev good : Good cornerLimit loops (s .points) (s .quads) (s .fronts)
   good = stands .good
 
   abbrev allowed : Allowed s

@@ -5,6 +5,7 @@ use mathlib.Core.List.{List, [], _∷_, _++_, map}
 use Prim.Native.Nat.{ℕ, suc, _+_, _*_, _/_, _%_, _≤_}
 use native.Mathlib.Omega.{arith}
 use lib.Dec.{eqb, ltb, leb}
+use lib.Ieee.{Float}
 use lib.ListN.{length, getD, length-append}
 use borrow.Author.Tests.{eqb-true, eqb-false, ne-eqb, ltb-false, not-false}
 use Rattle.geometry.specs.Rings.{nodeRing}
@@ -18,6 +19,7 @@ use Rattle.state.proofs.Basics.{or-false}
 use Rattle.state.proofs.Outcomes.{gives-same, not-both, first-none, numbered-gives}
 use Rattle.state.proofs.Written.{reading-written}
 use Rattle.input.specs.Job.{Job, inputNumber}
+use Rattle.input.specs.Limit.{cornerLimit}
 use Rattle.input.proofs.Shape.{accepted}
 use Rattle.sampling.specs.Sample.{sampled, onJob, sampleCall}
 use Rattle.rules.specs.Checks.{quadPasses}
@@ -40,22 +42,22 @@ use Rattle.rules.proofs.FanGood.{fan-length, fan-good}
 
 -- ---- closings
 
-pub closings-give : (s t : State) → closings s ≡ gives t → (t ≡ closed s) × (length (closed s .quads) ≤ quadLimit)
+pub closings-give : (limit : Float) (s t : State) → closings limit s ≡ gives t → (t ≡ closed limit s) × (length (closed limit s .quads) ≤ quadLimit)
 unfolding closings
-closings-give s t e = go (ltb quadLimit (length (closed s .quads))) refl e
+closings-give limit s t e = go (ltb quadLimit (length (closed limit s .quads))) refl e
   where
-    go : (b : Bool) → ltb quadLimit (length (closed s .quads)) ≡ b → cond b (refused 21) (gives (closed s)) ≡ gives t → (t ≡ closed s) × (length (closed s .quads) ≤ quadLimit)
+    go : (b : Bool) → ltb quadLimit (length (closed limit s .quads)) ≡ b → cond b (refused 21) (gives (closed limit s)) ≡ gives t → (t ≡ closed limit s) × (length (closed limit s .quads) ≤ quadLimit)
     go true d f = absurd (not-both f)
-    go false d f = (sym (gives-same f), ltb-false quadLimit (length (closed s .quads)) d)
+    go false d f = (sym (gives-same f), ltb-false quadLimit (length (closed limit s .quads)) d)
 
-closed-stands : (loops : List (List ℕ)) (s : State) → length (closed s .quads) ≤ quadLimit → Stands loops s → Stands loops (closed s)
+closed-stands : (loops : List (List ℕ)) (s : State) → length (closed cornerLimit s .quads) ≤ quadLimit → Stands loops s → Stands loops (closed cornerLimit s)
 unfolding closed
 closed-stands loops s few g =
     let a = g .allowed in
-    let kept = kept-fewer (s .points) (s .fronts) in
-    let more = length-append (s .quads) (joined (map (closure (s .points)) (s .fronts))) in
+    let kept = kept-fewer cornerLimit (s .points) (s .fronts) in
+    let more = length-append (s .quads) (joined (map (closure cornerLimit (s .points)) (s .fronts))) in
     record {
-      good = closing-good loops (s .points) (s .quads) [] (s .fronts) (g .good);
+      good = closing-good cornerLimit loops (s .points) (s .quads) [] (s .fronts) (g .good);
       allowed = record {
         points = a .points;
         quads = few;
@@ -68,12 +70,12 @@ closed-stands loops s few g =
       };
     }
 
-closings-keep : (loops : List (List ℕ)) (s t : State) → closings s ≡ gives t → Stands loops s → Stands loops t
-closings-keep loops s t e g = let c = closings-give s t e in rw (c .0) (closed-stands loops s (c .1) g)
+closings-keep : (loops : List (List ℕ)) (s t : State) → closings cornerLimit s ≡ gives t → Stands loops s → Stands loops t
+closings-keep loops s t e g = let c = closings-give cornerLimit s t e in rw (c .0) (closed-stands loops s (c .1) g)
 
 -- ---- a fan
 
-fanned-keeps : (loops : List (List ℕ)) (j : Job) (s : State) (f : List ℕ) (t : State) → s .fronts ≡ f ∷ [] → fanned j s f ≡ gives t → Stands loops s → Stands loops t
+fanned-keeps : (loops : List (List ℕ)) (j : Job) (s : State) (f : List ℕ) (t : State) → s .fronts ≡ f ∷ [] → fanned cornerLimit j s f ≡ gives t → Stands loops s → Stands loops t
 unfolding fanned
 fanned-keeps loops j s f t only e g =
     let n = length f in
@@ -89,11 +91,11 @@ fanned-keeps loops j s f t only e g =
     let twos : n ≡ 2 * (n / 2) = omega (arith, eqb-false (n % 2) 1 (or-false (ltb n 4) (eqb (n % 2) 1) (t24 .0) .1)) in
     let room = or-false (ltb pointLimit (nodes s + 1)) (ltb quadLimit (length (s .quads) + n / 2)) (t21 .0) in
     let a = g .allowed in
-    let here : Good loops (s .points) (s .quads) (f ∷ []) = subst (λ x. Good loops (s .points) (s .quads) x) only (g .good) in
+    let here : Good cornerLimit loops (s .points) (s .quads) (f ∷ []) = subst (λ x. Good cornerLimit loops (s .points) (s .quads) x) only (g .good) in
     let quads-after : length (s .quads ++ added) ≡ length (s .quads) + n / 2 = length-append (s .quads) added ∙ ap (λ k. length (s .quads) + k) (fan-length pts f (nodes s) (n / 2)) in
     subst (λ x. Stands loops x) (all .1)
     (record {
-      good = fan-good loops (s .points) (s .quads) f here more (n / 2) twos refl (λ i l. every-at (λ k. quadPasses pts (getD added k noQuad)) (n / 2) i (not-false _ (t27 .0)) l);
+      good = fan-good cornerLimit loops (s .points) (s .quads) f here more (n / 2) twos refl (λ i l. every-at (λ k. quadPasses cornerLimit pts (getD added k noQuad)) (n / 2) i (not-false _ (t27 .0)) l);
       allowed = record {
         points = omega (arith, length-append (s .points) more, ltb-false pointLimit (nodes s + 1) (room .0));
         quads = omega (arith, quads-after, ltb-false quadLimit (length (s .quads) + n / 2) (room .1));
@@ -106,12 +108,12 @@ fanned-keeps loops j s f t only e g =
       };
     })
 
-fan-keeps : (loops : List (List ℕ)) (j : Job) (s t : State) → fan j s ≡ gives t → Stands loops s → Stands loops t
+fan-keeps : (loops : List (List ℕ)) (j : Job) (s t : State) → fan cornerLimit j s ≡ gives t → Stands loops s → Stands loops t
 unfolding fan
 fan-keeps loops j s t e g = go (s .fronts) refl e
   where
     after : List (List ℕ) → Outcome State
-    after x = elim x [ [] ↦ gives s | f ∷ fs ↦ cond (eqb (length fs) 0) (fanned j s f) (refused 23) ]
+    after x = elim x [ [] ↦ gives s | f ∷ fs ↦ cond (eqb (length fs) 0) (fanned cornerLimit j s f) (refused 23) ]
 
     go : (x : List (List ℕ)) → s .fronts ≡ x → after x ≡ gives t → Stands loops t
     go [] d h = subst (λ u. Stands loops u) (gives-same h) g
@@ -169,7 +171,7 @@ pub record Made (j : Job) (t : State) : Type 0 where
   pub sampledIs : sampled j ≡ gives start
   pub rows : State
   pub passesAre : somePasses j (j .options .«max_row_rounds») start ≡ gives rows
-  pub closingsAre : closings rows ≡ gives t
+  pub closingsAre : closings cornerLimit rows ≡ gives t
 
 pub paved-made : (j : Job) (t : State) → paved j ≡ gives t → Made j t
 unfolding paved andThen
@@ -178,11 +180,11 @@ paved-made j t e = go (sampled j) refl e
     limit : ℕ
     limit = j .options .«max_row_rounds»
 
-    rows : (s : State) → sampled j ≡ gives s → (y : Outcome State) → somePasses j limit s ≡ y → andThen y closings ≡ gives t → Made j t
+    rows : (s : State) → sampled j ≡ gives s → (y : Outcome State) → somePasses j limit s ≡ y → andThen y (closings cornerLimit) ≡ gives t → Made j t
     rows s d (refused n) c f = absurd (not-both f)
     rows s d (gives u) c f = record { start = s; sampledIs = d; rows = u; passesAre = c; closingsAre = f }
 
-    go : (x : Outcome State) → sampled j ≡ x → andThen (andThen x (somePasses j limit)) closings ≡ gives t → Made j t
+    go : (x : Outcome State) → sampled j ≡ x → andThen (andThen x (somePasses j limit)) (closings cornerLimit) ≡ gives t → Made j t
     go (refused n) d f = absurd (not-both f)
     go (gives s) d f = rows s d (somePasses j limit s) refl f
 
@@ -235,5 +237,5 @@ reached-holds (bySample j l e) =
     let a = sample-accepted j l e in
     record { state = a .state; heldIs = a .heldIs; stands = start-stands j l (a .state) (a .input) (a .madeIs) }
 reached-holds (byRow {loops} {b} j li r) = step-holds (inputNumber j (lengths b)) (rowAt j li) (row-keeps loops j li) (reached-holds r)
-reached-holds (byClosing {loops} {b} j r) = step-holds (inputNumber j (lengths b)) closings (closings-keep loops) (reached-holds r)
-reached-holds (byFan {loops} {b} j r) = step-holds (inputNumber j (lengths b)) (fan j) (fan-keeps loops j) (reached-holds r)
+reached-holds (byClosing {loops} {b} j r) = step-holds (inputNumber j (lengths b)) (closings cornerLimit) (closings-keep loops) (reached-holds r)
+reached-holds (byFan {loops} {b} j r) = step-holds (inputNumber j (lengths b)) (fan cornerLimit j) (fan-keeps loops j) (reached-holds r)

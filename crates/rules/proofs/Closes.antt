@@ -20,16 +20,16 @@ abbrev pub Within : List ℕ → Quad → Type 0
 Within f q = (0 < occurs (q .a) f) × (0 < occurs (q .b) f) × (0 < occurs (q .c) f) × (0 < occurs (q .d) f)
 
 -- The quads have the front's sides, and twice each of some chords: a chord joins two nodes of the front that are no neighbours.
-pub record Closes (points : List Float) (f : List ℕ) (added : List Quad) : Type 0 where
+pub record Closes (limit : Float) (points : List Float) (f : List ℕ) (added : List Quad) : Type 0 where
   pub chord : ℕ → ℕ → ℕ
   pub counted : (a b : ℕ) → sidesOfAll a b (map quadNodes added) ≡ sides a b f + 2 * chord a b
   pub atMost : (a b : ℕ) → chord a b ≤ 1
   pub across : (a b : ℕ) → 0 < chord a b → (sides a b f ≡ 0) × (0 < occurs a f) × (0 < occurs b f)
   pub within : (i : ℕ) → i < length added → Within f (getD added i noQuad)
-  pub passed : (i : ℕ) → i < length added → quadPasses points (getD added i noQuad) ≡ true
+  pub passed : (i : ℕ) → i < length added → quadPasses limit points (getD added i noQuad) ≡ true
 
-module _ (loops : List (List ℕ)) (points : List Float) (quads : List Quad) (before : List (List ℕ)) (f : List ℕ) (behind : List (List ℕ)) (added : List Quad)
-    (good : Good loops points quads (before ++ (f ∷ behind))) (closes : Closes points f added) where
+module _ (limit : Float) (loops : List (List ℕ)) (points : List Float) (quads : List Quad) (before : List (List ℕ)) (f : List ℕ) (behind : List (List ℕ)) (added : List Quad)
+    (good : Good limit loops points quads (before ++ (f ∷ behind))) (closes : Closes limit points f added) where
   abbrev p : ℕ
   p = length points / 2
 
@@ -68,7 +68,7 @@ module _ (loops : List (List ℕ)) (points : List Float) (quads : List Quad) (be
           let e : laidCount loops (quads ++ added) a b + sidesOfAll a b (before ++ behind) ≡ laidCount loops quads a b + sidesOfAll a b (before ++ (f ∷ behind)) = omega (arith, laid-after a b, sides-split a b) in
           rw e (good .count a b)
 
-  pub close-good : Good loops points (quads ++ added) (before ++ behind)
+  pub close-good : Good limit loops points (quads ++ added) (before ++ behind)
   close-good = record {
     even = good .even;
     once = λ a. omega (arith, occurs-split a, good .once a);
@@ -82,7 +82,7 @@ module _ (loops : List (List ℕ)) (points : List Float) (quads : List Quad) (be
     freshRight = λ a b h. omega (arith, laid-after a b, good .freshRight a b h, sides-none-right a b f (low b h), no-chord-right a b (low b h));
     quadsLow = all-append (Below p) noQuad quads added (good .quadsLow)
         (λ i l. let w = closes .within i l in (below _ (w .0), below _ (w .1), below _ (w .2), below _ (w .3)));
-    corners = all-append (λ q. quadPasses points q ≡ true) noQuad quads added (good .corners) (closes .passed);
+    corners = all-append (λ q. quadPasses limit points q ≡ true) noQuad quads added (good .corners) (closes .passed);
   }
     where
       below : (c : ℕ) → 0 < occurs c f → c < p

@@ -54,9 +54,9 @@ four-sides (x ∷ (y ∷ (z ∷ []))) a b e = absurd (omega arith)
 four-sides (x ∷ (y ∷ (z ∷ (w ∷ [])))) a b e = refl
 four-sides (x ∷ (y ∷ (z ∷ (w ∷ (v ∷ f))))) a b e = absurd (omega arith)
 
-four-closes : (pts : List Float) (f : List ℕ) → length f ≡ 4 → (closeFour pts f ≡ []) ⊎ ((length (closeFour pts f) ≡ 1) × Closes pts f (closeFour pts f))
+four-closes : (limit : Float) (pts : List Float) (f : List ℕ) → length f ≡ 4 → (closeFour limit pts f ≡ []) ⊎ ((length (closeFour limit pts f) ≡ 1) × Closes limit pts f (closeFour limit pts f))
 unfolding closeFour
-four-closes pts f e = go (quadPasses pts q) refl
+four-closes limit pts f e = go (quadPasses limit pts q) refl
   where
     four : Quad
     four = quad (getD f 0 0) (getD f 1 0) (getD f 2 0) (getD f 3 0)
@@ -64,7 +64,7 @@ four-closes pts f e = go (quadPasses pts q) refl
     q : Quad
     q = turnedQuad pts four
 
-    go : (t : Bool) → quadPasses pts q ≡ t → (cond t (q ∷ []) [] ≡ []) ⊎ ((length (cond t (q ∷ []) []) ≡ 1) × Closes pts f (cond t (q ∷ []) []))
+    go : (t : Bool) → quadPasses limit pts q ≡ t → (cond t (q ∷ []) [] ≡ []) ⊎ ((length (cond t (q ∷ []) []) ≡ 1) × Closes limit pts f (cond t (q ∷ []) []))
     go false h = inl refl
     go true h =
         inr (
@@ -83,7 +83,7 @@ four-closes pts f e = go (quadPasses pts q) refl
         one zero l = turned-nodes (λ c. 0 < occurs c f) pts four (occurs-here f 0 (omega arith), occurs-here f 1 (omega arith), occurs-here f 2 (omega arith), occurs-here f 3 (omega arith))
         one (suc i) l = absurd (omega arith)
 
-        pass : (i : ℕ) → i < 1 → quadPasses pts (getD (q ∷ []) i noQuad) ≡ true
+        pass : (i : ℕ) → i < 1 → quadPasses limit pts (getD (q ∷ []) i noQuad) ≡ true
         pass zero l = h
         pass (suc i) l = absurd (omega arith)
 
@@ -159,9 +159,9 @@ module _ (pts : List Float) (f : List ℕ) (six : length f ≡ 6) (one : (c : �
           steps (suc (suc zero)) l h = omega arith
           steps (suc (suc (suc i))) l h = omega arith
 
-  split-closes : quadPasses pts (firstHalf pts f k) ≡ true → quadPasses pts (secondHalf pts f k) ≡ true → Closes pts f split
+  split-closes : (limit : Float) → quadPasses limit pts (firstHalf pts f k) ≡ true → quadPasses limit pts (secondHalf pts f k) ≡ true → Closes limit pts f split
   unfolding firstHalf secondHalf
-  split-closes p q = record {
+  split-closes limit p q = record {
     chord = chord;
     counted = split-counted;
     atMost = λ a b. pair-le a b (sixth f k) (sixth f (k + 3));
@@ -175,18 +175,18 @@ module _ (pts : List Float) (f : List ℕ) (six : length f ≡ 6) (one : (c : �
       within (suc zero) l = turned-nodes (λ c. 0 < occurs c f) pts (quad (sixth f k) (sixth f (k + 3)) (sixth f (k + 4)) (sixth f (k + 5))) (place-mod k, place-mod (k + 3), place-mod (k + 4), place-mod (k + 5))
       within (suc (suc i)) l = absurd (omega arith)
 
-      passed : (i : ℕ) → i < 2 → quadPasses pts (getD split i noQuad) ≡ true
+      passed : (i : ℕ) → i < 2 → quadPasses limit pts (getD split i noQuad) ≡ true
       passed zero l = p
       passed (suc zero) l = q
       passed (suc (suc i)) l = absurd (omega arith)
 
 -- the best split is none, or one of them whose quads both pass
-best-cases : (pts : List Float) (f : List ℕ) (n : ℕ)
-    → (bestSplit pts f n .quads ≡ [])
-    ⊎ ((k : ℕ) × (k < n) × (bestSplit pts f n .quads ≡ firstHalf pts f k ∷ secondHalf pts f k ∷ []) × (quadPasses pts (firstHalf pts f k) ≡ true) × (quadPasses pts (secondHalf pts f k) ≡ true))
+best-cases : (limit : Float) (pts : List Float) (f : List ℕ) (n : ℕ)
+    → (bestSplit limit pts f n .quads ≡ [])
+    ⊎ ((k : ℕ) × (k < n) × (bestSplit limit pts f n .quads ≡ firstHalf pts f k ∷ secondHalf pts f k ∷ []) × (quadPasses limit pts (firstHalf pts f k) ≡ true) × (quadPasses limit pts (secondHalf pts f k) ≡ true))
 unfolding bestSplit
-best-cases pts f zero = inl refl
-best-cases pts f (suc n) = go _ refl (best-cases pts f n)
+best-cases limit pts f zero = inl refl
+best-cases limit pts f (suc n) = go _ refl (best-cases limit pts f n)
   where
     P : Quad
     P = firstHalf pts f n
@@ -197,57 +197,57 @@ best-cases pts f (suc n) = go _ refl (best-cases pts f n)
     score : Float
     score = lesser (leastOf pts P) (leastOf pts Q)
 
-    go : (t : Bool) → (quadPasses pts P && quadPasses pts Q && (eqb (length (bestSplit pts f n .quads)) 0 || lt (bestSplit pts f n .score) score)) ≡ t
-        → (bestSplit pts f n .quads ≡ [])
-        ⊎ ((k : ℕ) × (k < n) × (bestSplit pts f n .quads ≡ firstHalf pts f k ∷ secondHalf pts f k ∷ []) × (quadPasses pts (firstHalf pts f k) ≡ true) × (quadPasses pts (secondHalf pts f k) ≡ true))
-        → (cond t (record { quads = P ∷ Q ∷ []; score = score }) (bestSplit pts f n) .quads ≡ [])
-        ⊎ ((k : ℕ) × (k < suc n) × (cond t (record { quads = P ∷ Q ∷ []; score = score }) (bestSplit pts f n) .quads ≡ firstHalf pts f k ∷ secondHalf pts f k ∷ [])
-        × (quadPasses pts (firstHalf pts f k) ≡ true) × (quadPasses pts (secondHalf pts f k) ≡ true))
+    go : (t : Bool) → (quadPasses limit pts P && quadPasses limit pts Q && (eqb (length (bestSplit limit pts f n .quads)) 0 || lt (bestSplit limit pts f n .score) score)) ≡ t
+        → (bestSplit limit pts f n .quads ≡ [])
+        ⊎ ((k : ℕ) × (k < n) × (bestSplit limit pts f n .quads ≡ firstHalf pts f k ∷ secondHalf pts f k ∷ []) × (quadPasses limit pts (firstHalf pts f k) ≡ true) × (quadPasses limit pts (secondHalf pts f k) ≡ true))
+        → (cond t (record { quads = P ∷ Q ∷ []; score = score }) (bestSplit limit pts f n) .quads ≡ [])
+        ⊎ ((k : ℕ) × (k < suc n) × (cond t (record { quads = P ∷ Q ∷ []; score = score }) (bestSplit limit pts f n) .quads ≡ firstHalf pts f k ∷ secondHalf pts f k ∷ [])
+        × (quadPasses limit pts (firstHalf pts f k) ≡ true) × (quadPasses limit pts (secondHalf pts f k) ≡ true))
     go true e ih =
-        let both : (quadPasses pts P && quadPasses pts Q) ≡ true = and-left _ _ e in
-        inr (n, omega arith, refl, and-left (quadPasses pts P) (quadPasses pts Q) both, and-right (quadPasses pts P) (quadPasses pts Q) both)
+        let both : (quadPasses limit pts P && quadPasses limit pts Q) ≡ true = and-left _ _ e in
+        inr (n, omega arith, refl, and-left (quadPasses limit pts P) (quadPasses limit pts Q) both, and-right (quadPasses limit pts P) (quadPasses limit pts Q) both)
     go false e (inl h) = inl h
     go false e (inr h) = inr (h .0, omega (arith, h .1), h .2, h .3, h .4)
 
 -- ---- any front
 
-closure-cases : (pts : List Float) (f : List ℕ) → ((c : ℕ) → occurs c f ≤ 1) → (closure pts f ≡ []) ⊎ ((m : ℕ) × (length (closure pts f) ≡ suc m) × Closes pts f (closure pts f))
+closure-cases : (limit : Float) (pts : List Float) (f : List ℕ) → ((c : ℕ) → occurs c f ≤ 1) → (closure limit pts f ≡ []) ⊎ ((m : ℕ) × (length (closure limit pts f) ≡ suc m) × Closes limit pts f (closure limit pts f))
 unfolding closure
-closure-cases pts f one = go (eqb (length f) 4) refl (eqb (length f) 6) refl
+closure-cases limit pts f one = go (eqb (length f) 4) refl (eqb (length f) 6) refl
   where
     go : (t : Bool) → eqb (length f) 4 ≡ t → (u : Bool) → eqb (length f) 6 ≡ u
-        → (cond t (closeFour pts f) (cond u (bestSplit pts f 3 .quads) []) ≡ [])
-        ⊎ ((m : ℕ) × (length (cond t (closeFour pts f) (cond u (bestSplit pts f 3 .quads) [])) ≡ suc m) × Closes pts f (cond t (closeFour pts f) (cond u (bestSplit pts f 3 .quads) [])))
-    go true e u g = elim (four-closes pts f (eqb-true (length f) 4 e)) [ inl h ↦ inl h | inr h ↦ inr (0, h .0, h .1) ]
+        → (cond t (closeFour limit pts f) (cond u (bestSplit limit pts f 3 .quads) []) ≡ [])
+        ⊎ ((m : ℕ) × (length (cond t (closeFour limit pts f) (cond u (bestSplit limit pts f 3 .quads) [])) ≡ suc m) × Closes limit pts f (cond t (closeFour limit pts f) (cond u (bestSplit limit pts f 3 .quads) [])))
+    go true e u g = elim (four-closes limit pts f (eqb-true (length f) 4 e)) [ inl h ↦ inl h | inr h ↦ inr (0, h .0, h .1) ]
     go false e false g = inl refl
     go false e true g =
-        elim (best-cases pts f 3) [
+        elim (best-cases limit pts f 3) [
           | inl h ↦ inl h
-          | inr h ↦ inr (1, ap length (h .2), rw (h .2) (split-closes pts f (eqb-true (length f) 6 g) one (h .0) (h .1) (h .3) (h .4)))
+          | inr h ↦ inr (1, ap length (h .2), rw (h .2) (split-closes pts f (eqb-true (length f) 6 g) one (h .0) (h .1) limit (h .3) (h .4)))
         ]
 
 -- ---- all fronts, by number
 
-pub closing-good : (loops : List (List ℕ)) (pts : List Float) (quads : List Quad) (before fronts : List (List ℕ)) → Good loops pts quads (before ++ fronts)
-    → Good loops pts (quads ++ joined (map (closure pts) fronts)) (before ++ keptFronts pts fronts)
+pub closing-good : (limit : Float) (loops : List (List ℕ)) (pts : List Float) (quads : List Quad) (before fronts : List (List ℕ)) → Good limit loops pts quads (before ++ fronts)
+    → Good limit loops pts (quads ++ joined (map (closure limit pts) fronts)) (before ++ keptFronts limit pts fronts)
 unfolding keptFronts joined
-closing-good loops pts quads before [] good = rw (append-nil quads) good
-closing-good loops pts quads before (f ∷ fronts) good = go (closure-cases pts f one) (λ laid kept g. closing-good loops pts laid kept fronts g)
+closing-good limit loops pts quads before [] good = rw (append-nil quads) good
+closing-good limit loops pts quads before (f ∷ fronts) good = go (closure-cases limit pts f one) (λ laid kept g. closing-good limit loops pts laid kept fronts g)
   where
     rest : List Quad
-    rest = joined (map (closure pts) fronts)
+    rest = joined (map (closure limit pts) fronts)
 
     one : (c : ℕ) → occurs c f ≤ 1
     one c = unfold occursInAll in omega (arith, occurs-append-all c before (f ∷ fronts), good .once c)
 
-    go : (closure pts f ≡ []) ⊎ ((m : ℕ) × (length (closure pts f) ≡ suc m) × Closes pts f (closure pts f))
-        → ((laid : List Quad) (kept : List (List ℕ)) → Good loops pts laid (kept ++ fronts) → Good loops pts (laid ++ rest) (kept ++ keptFronts pts fronts))
-        → Good loops pts (quads ++ (closure pts f ++ rest)) (before ++ cond (eqb (length (closure pts f)) 0) (f ∷ keptFronts pts fronts) (keptFronts pts fronts))
+    go : (closure limit pts f ≡ []) ⊎ ((m : ℕ) × (length (closure limit pts f) ≡ suc m) × Closes limit pts f (closure limit pts f))
+        → ((laid : List Quad) (kept : List (List ℕ)) → Good limit loops pts laid (kept ++ fronts) → Good limit loops pts (laid ++ rest) (kept ++ keptFronts limit pts fronts))
+        → Good limit loops pts (quads ++ (closure limit pts f ++ rest)) (before ++ cond (eqb (length (closure limit pts f)) 0) (f ∷ keptFronts limit pts fronts) (keptFronts limit pts fronts))
     go (inl h) others =
         rw h
-        (subst (λ t. Good loops pts (quads ++ rest) t) (append-assoc before (f ∷ []) (keptFronts pts fronts))
-        (others quads (before ++ (f ∷ [])) (subst (λ t. Good loops pts quads t) (sym (append-assoc before (f ∷ []) fronts)) good)))
+        (subst (λ t. Good limit loops pts (quads ++ rest) t) (append-assoc before (f ∷ []) (keptFronts limit pts fronts))
+        (others quads (before ++ (f ∷ [])) (subst (λ t. Good limit loops pts quads t) (sym (append-assoc before (f ∷ []) fronts)) good)))
     go (inr h) others =
-        rw (ne-eqb (length (closure pts f)) 0 (λ e. omega (arith, h .1)))
-        (subst (λ t. Good loops pts t (before ++ keptFronts pts fronts)) (append-assoc quads (closure pts f) rest)
-        (others (quads ++ closure pts f) before (close-good loops pts quads before f fronts (closure pts f) good (h .2))))
+        rw (ne-eqb (length (closure limit pts f)) 0 (λ e. omega (arith, h .1)))
+        (subst (λ t. Good limit loops pts t (before ++ keptFronts limit pts fronts)) (append-assoc quads (closure limit pts f) rest)
+        (others (quads ++ closure limit pts f) before (close-good limit loops pts quads before f fronts (closure limit pts f) good (h .2))))

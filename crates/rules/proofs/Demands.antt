@@ -3,6 +3,7 @@ use mathlib.Core.Path.{_≡_, refl, ap, sym, _∙_, subst₂}
 use mathlib.Core.List.{List, _++_, map, append-assoc}
 use Prim.Native.Nat.{ℕ, _*_, _%_, _≤_}
 use native.Mathlib.Omega.{arith}
+use lib.Ieee.{Float}
 use lib.ListN.{length, take, length-append}
 use lib.Seq.{take-at}
 use Rattle.float.specs.Helpers.{decimal}
@@ -11,6 +12,7 @@ use Rattle.state.specs.Coordinates.{wrongCoordinate}
 use Rattle.state.specs.Given.{wrongState}
 use Rattle.state.specs.Call.{numberOf}
 use Rattle.input.specs.Job.{Job}
+use Rattle.input.specs.Limit.{cornerLimit}
 use Rattle.state.specs.Outcome.{gives}
 use Rattle.rules.specs.Passes.{somePasses}
 use Rattle.rules.specs.Closing.{closure, closed}
@@ -44,8 +46,8 @@ reached-taken {loops} r = let h = reached-holds r in ap wrongState (h .heldIs) �
 record Rows (j : Job) (l : Lengths) : Type 0 where
   pub state : State
   pub made : Made j state
-  pub heldIs : jobCall j l .held ≡ written (closed (made .rows))
-  pub readIs : reading (jobCall j l .held) ≡ closed (made .rows)
+  pub heldIs : jobCall j l .held ≡ written (closed cornerLimit (made .rows))
+  pub readIs : reading (jobCall j l .held) ≡ closed cornerLimit (made .rows)
   pub even : length (made .rows .points) % 2 ≡ 0
   pub advance : Advances (made .start) (made .rows)
   -- laid is all that the rows laid
@@ -56,7 +58,7 @@ unfolding jobCall closed
 rows-of j l e =
     let a = job-accepted j l e in
     let m = paved-made j (a .state) (a .madeIs) in
-    let is = closings-give (m .rows) (a .state) (m .closingsAre) .0 in
+    let is = closings-give cornerLimit (m .rows) (a .state) (m .closingsAre) .0 in
     let adv = passes-advance j (j .options .«max_row_rounds») (m .start) (m .rows) (m .passesAre) in
     let fresh = sampled-began j (m .start) (m .sampledIs) .fresh in
     let even = rows-stand j l (a .state) (a .input) m .good .even in
@@ -64,7 +66,7 @@ rows-of j l e =
       state = a .state;
       made = m;
       heldIs = a .heldIs ∙ ap written is;
-      readIs = ap reading (a .heldIs ∙ ap written is) ∙ reading-written (closed (m .rows)) even;
+      readIs = ap reading (a .heldIs ∙ ap written is) ∙ reading-written (closed cornerLimit (m .rows)) even;
       even = even;
       advance = adv;
       all = adv .laidAll (fresh .noneLaid ∙ sym (ap length (fresh .none)));
@@ -113,15 +115,15 @@ module _ (s t : State) (adv : Advances s t) (all : s .laid ≡ length (s .quads)
   quads-first : (added : List Quad) → take (s .laid * 4) (padded 16384 0 (numbers (t .quads ++ added))) ≡ numbers (s .quads)
   quads-first added = rw (all, adv .quadsAre, append-assoc (s .quads) (adv .moreQuads) added) (first-quads (s .quads) (adv .moreQuads ++ added) _)
 
-  closed-begins : Begins (written (closed s)) (written (closed t))
+  closed-begins : (limit : Float) → Begins (written (closed limit s)) (written (closed limit t))
   unfolding written closed
-  closed-begins = record {
+  closed-begins limit = record {
     fewerPoints = rw (adv .pointsAre) (omega (arith, length-append (s .points) (adv .morePoints)));
     fewerLaid = rw (all, adv .laidAll all, adv .quadsAre) (omega (arith, length-append (s .quads) (adv .moreQuads)));
     samePoints = take-at (s .points) _ (nodes s * 2) (omega arith) ∙ sym points-first;
-    sameQuads = ap (λ n. take (n * 4) (padded 16384 0 (numbers (s .quads ++ joined (map (closure (s .points)) (s .fronts)))))) all
-        ∙ first-quads (s .quads) (joined (map (closure (s .points)) (s .fronts))) _
-        ∙ sym (quads-first (joined (map (closure (t .points)) (t .fronts))));
+    sameQuads = ap (λ n. take (n * 4) (padded 16384 0 (numbers (s .quads ++ joined (map (closure limit (s .points)) (s .fronts)))))) all
+        ∙ first-quads (s .quads) (joined (map (closure limit (s .points)) (s .fronts))) _
+        ∙ sym (quads-first (joined (map (closure limit (t .points)) (t .fronts))));
   }
 
 begins : (j : Job) (l : Lengths) (p q : ℕ) → p ≤ q → numberOf (jobCall (underLimit j p) l) ≡ 0 → numberOf (jobCall (underLimit j q) l) ≡ 0
@@ -135,7 +137,7 @@ begins j l p q le e f =
     let same : b .made .start ≡ s = gives-same (sym (b .made .sampledIs) ∙ sym (sampled-same j p q) ∙ a .made .sampledIs) in
     let later : somePasses (underLimit j p) q s ≡ gives v = passes-same j p q q s ∙ ap (somePasses (underLimit j q) q) (sym same) ∙ b .made .passesAre in
     let adv = passes-prefix (underLimit j p) p q s u v le (a .made .passesAre) later in
-    subst₂ Begins (sym (a .heldIs)) (sym (b .heldIs)) (closed-begins u v adv (a .all) (a .even))
+    subst₂ Begins (sym (a .heldIs)) (sym (b .heldIs)) (closed-begins u v adv (a .all) (a .even) cornerLimit)
 
 pub demand-3 : Demand3
 demand-3 = record {

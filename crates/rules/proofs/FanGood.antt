@@ -132,7 +132,7 @@ module _ (a b : ℕ) (pts : List Float) (f : List ℕ) (c m : ℕ) (even : lengt
           | inr (inr x) ↦ absurd (omega (arith, x))
         ])
 
-module _ (loops : List (List ℕ)) (points : List Float) (quads : List Quad) (f : List ℕ) (good : Good loops points quads (f ∷ [])) (more : List Float) (m : ℕ) (even : length f ≡ 2 * m) where
+module _ (limit : Float) (loops : List (List ℕ)) (points : List Float) (quads : List Quad) (f : List ℕ) (good : Good limit loops points quads (f ∷ [])) (more : List Float) (m : ℕ) (even : length f ≡ 2 * m) where
   abbrev p : ℕ
   p = length points / 2
 
@@ -187,8 +187,8 @@ module _ (loops : List (List ℕ)) (points : List Float) (quads : List Quad) (f 
       last zero h = turned-nodes (λ c. c < p + 1) (points ++ more) _ (omega arith, node (2 * k), node (2 * k + 1), node (2 * k + 2))
       last (suc i) h = absurd (omega arith)
 
-  pub fan-good : length more ≡ 2 → ((i : ℕ) → i < m → quadPasses (points ++ more) (getD (fanQuads (points ++ more) f (length points / 2) m) i noQuad) ≡ true)
-      → Good loops (points ++ more) (quads ++ fanQuads (points ++ more) f (length points / 2) m) []
+  pub fan-good : length more ≡ 2 → ((i : ℕ) → i < m → quadPasses limit (points ++ more) (getD (fanQuads (points ++ more) f (length points / 2) m) i noQuad) ≡ true)
+      → Good limit loops (points ++ more) (quads ++ fanQuads (points ++ more) f (length points / 2) m) []
   unfolding occursInAll sidesOfAll
   fan-good centre passed = record {
     even = omega (arith, length-append points more, good .even);
@@ -206,7 +206,7 @@ module _ (loops : List (List ℕ)) (points : List Float) (quads : List Quad) (f 
         (all-append (Below (p + 1)) noQuad quads fanAdded
         (λ i l. let q = good .quadsLow i l in (omega (arith, q .0), omega (arith, q .1), omega (arith, q .2), omega (arith, q .3)))
         (fan-low m (omega arith)));
-    corners = all-append (λ q. quadPasses (points ++ more) q ≡ true) noQuad quads fanAdded (λ i l. passes-append points more (getD quads i noQuad) (good .quadsLow i l) ∙ good .corners i l)
+    corners = all-append (λ q. quadPasses limit (points ++ more) q ≡ true) noQuad quads fanAdded (λ i l. passes-append limit points more (getD quads i noQuad) (good .quadsLow i l) ∙ good .corners i l)
         (λ i l. passed i (omega (arith, fan-length (points ++ more) f p m)));
   }
     where

@@ -25,7 +25,7 @@ Below p q = (q .a < p) × (q .b < p) × (q .c < p) × (q .d < p)
 abbrev pub noQuad : Quad
 noQuad = quad 0 0 0 0
 
-pub record Good (loops : List (List ℕ)) (points : List Float) (quads : List Quad) (fronts : List (List ℕ)) : Type 0 where
+pub record Good (limit : Float) (loops : List (List ℕ)) (points : List Float) (quads : List Quad) (fronts : List (List ℕ)) : Type 0 where
   pub even : length points % 2 ≡ 0
   -- front nodes are all different, and below the points
   pub once : (a : ℕ) → occursInAll a fronts ≤ 1
@@ -38,13 +38,13 @@ pub record Good (loops : List (List ℕ)) (points : List Float) (quads : List Qu
   pub freshLeft : (a b : ℕ) → length points / 2 ≤ a → laidCount loops quads a b ≡ 0
   pub freshRight : (a b : ℕ) → length points / 2 ≤ b → laidCount loops quads a b ≡ 0
   pub quadsLow : (i : ℕ) → i < length quads → Below (length points / 2) (getD quads i noQuad)
-  pub corners : (i : ℕ) → i < length quads → quadPasses points (getD quads i noQuad) ≡ true
+  pub corners : (i : ℕ) → i < length quads → quadPasses limit points (getD quads i noQuad) ≡ true
 
 pub laid-append : (loops : List (List ℕ)) (quads more : List Quad) (a b : ℕ) → laidCount loops (quads ++ more) a b ≡ laidCount loops quads a b + sidesOfAll a b (map quadNodes more)
 laid-append loops quads more a b = rw (map-append quadNodes quads more) (omega (arith, sides-append-all a b (map quadNodes quads) (map quadNodes more)))
 
 -- quads keep their corner values because points are only added
-pub passes-append : (points more : List Float) (q : Quad) → Below (length points / 2) q → quadPasses (points ++ more) q ≡ quadPasses points q
+pub passes-append : (limit : Float) (points more : List Float) (q : Quad) → Below (length points / 2) q → quadPasses limit (points ++ more) q ≡ quadPasses limit points q
 unfolding quadPasses
-passes-append points more q l =
+passes-append limit points more q l =
     rw (point-append points more (q .a) (l .0), point-append points more (q .b) (l .1), point-append points more (q .c) (l .2), point-append points more (q .d) (l .3))

@@ -175,30 +175,30 @@ passes-in j (suc n) s = go (onePass j s) (rows-in j (passOrder s) (begun s)) (λ
         pick true = gives-in (21 ∷ []) t
         pick false = rest t
 
-pub closings-in : (s : State) → RefusedIn (21 ∷ []) (closings s)
+pub closings-in : (limit : Float) (s : State) → RefusedIn (21 ∷ []) (closings limit s)
 unfolding closings
-closings-in s = pick (ltb 4096 (length (closed s .quads)))
+closings-in limit s = pick (ltb 4096 (length (closed limit s .quads)))
   where
-    pick : (b : Bool) → RefusedIn (21 ∷ []) (cond b (refused 21) (gives (closed s)))
+    pick : (b : Bool) → RefusedIn (21 ∷ []) (cond b (refused 21) (gives (closed limit s)))
     pick true = refused-in State (21 ∷ []) 21 has21
-    pick false = gives-in (21 ∷ []) (closed s)
+    pick false = gives-in (21 ∷ []) (closed limit s)
 
-fanned-in : (j : Job) (s : State) (f : List ℕ) → RefusedIn fanRefusals (fanned j s f)
+fanned-in : (limit : Float) (j : Job) (s : State) (f : List ℕ) → RefusedIn fanRefusals (fanned limit j s f)
 unfolding fanned
-fanned-in j s f = chosen-in _ _ fanRefusals (first-in _ fanRefusals own-fan) (gives-in fanRefusals _)
+fanned-in limit j s f = chosen-in _ _ fanRefusals (first-in _ fanRefusals own-fan) (gives-in fanRefusals _)
 
-pub fan-in : (j : Job) (s : State) → RefusedIn fanRefusals (fan j s)
+pub fan-in : (limit : Float) (j : Job) (s : State) → RefusedIn fanRefusals (fan limit j s)
 unfolding fan
-fan-in j s = go (s .fronts)
+fan-in limit j s = go (s .fronts)
   where
     after : List (List ℕ) → Outcome State
     after [] = gives s
-    after (f ∷ fs) = cond (eqb (length fs) 0) (fanned j s f) (refused 23)
+    after (f ∷ fs) = cond (eqb (length fs) 0) (fanned limit j s f) (refused 23)
 
     go : (fs : List (List ℕ)) → RefusedIn fanRefusals (after fs)
     go [] = gives-in fanRefusals s
     go (f ∷ fs) = pick (eqb (length fs) 0)
       where
-        pick : (b : Bool) → RefusedIn fanRefusals (cond b (fanned j s f) (refused 23))
-        pick true = fanned-in j s f
+        pick : (b : Bool) → RefusedIn fanRefusals (cond b (fanned limit j s f) (refused 23))
+        pick true = fanned-in limit j s f
         pick false = refused-in State fanRefusals 23 has23

@@ -9,6 +9,7 @@ use lib.ListN.{length, length-append, length-set}
 use lib.Ieee.{Float}
 use Rattle.state.specs.State.{State, Quad, nodes, numbered}
 use Rattle.input.specs.Job.{Job}
+use Rattle.input.specs.Limit.{cornerLimit}
 use Rattle.state.specs.Outcome.{Outcome, refused, gives}
 use Rattle.rules.specs.Checks.{newQuads}
 use Rattle.rules.specs.Row.{front, newOf, committed, nextRow}
@@ -94,7 +95,7 @@ module _ (j : Job) (s : State) (li : ℕ) (t : State) (e : nextRow j s li ≡ gi
   unfolding committed
   commits = record {
     keeps = λ loops g. record {
-      good = row-good loops (s .points) (s .quads) (s .fronts) li (g .good) new many new-long (corners j (s .points) (s .fronts) li (given .stands));
+      good = row-good cornerLimit loops (s .points) (s .quads) (s .fronts) li (g .good) new many new-long (corners j (s .points) (s .fronts) li (given .stands));
       allowed = row-allowed (g .allowed);
     };
     laidAll = λ e. sym quads-after;

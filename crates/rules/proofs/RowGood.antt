@@ -42,9 +42,9 @@ row-low old p low (suc k) l =
         (omega arith, omega arith, omega arith, omega arith)
     last (suc i) m = absurd (omega arith)
 
-module _ (loops : List (List ℕ)) (points : List Float) (quads : List Quad) (fronts : List (List ℕ)) (li : ℕ) (good : Good loops points quads fronts)
+module _ (limit : Float) (loops : List (List ℕ)) (points : List Float) (quads : List Quad) (fronts : List (List ℕ)) (li : ℕ) (good : Good limit loops points quads fronts)
     (more : List Float) (six : 6 ≤ length (getD fronts li [])) (long : length more ≡ length (getD fronts li []) * 2)
-    (passed : (i : ℕ) → i < length (getD fronts li []) → quadPasses (points ++ more) (getD (rowQuads (getD fronts li []) (length points / 2) (length (getD fronts li []))) i noQuad) ≡ true) where
+    (passed : (i : ℕ) → i < length (getD fronts li []) → quadPasses limit (points ++ more) (getD (rowQuads (getD fronts li []) (length points / 2) (length (getD fronts li []))) i noQuad) ≡ true) where
   abbrev old : List ℕ
   old = getD fronts li []
 
@@ -126,7 +126,7 @@ module _ (loops : List (List ℕ)) (points : List Float) (quads : List Quad) (fr
           omega
           (arith, laid-after a b, sides-after a b, good .freshLeft a b x, sides-none-left-all a b fronts (good .low a x), sides-none-left a b old (old-low a x), rungs-new a b old p old-low x y)
 
-  pub row-good : Good loops (points ++ more) (quads ++ rowQuads (getD fronts li []) (length points / 2) (length (getD fronts li []))) (set fronts li (numbered (length points / 2) (length (getD fronts li []))))
+  pub row-good : Good limit loops (points ++ more) (quads ++ rowQuads (getD fronts li []) (length points / 2) (length (getD fronts li []))) (set fronts li (numbered (length points / 2) (length (getD fronts li []))))
   row-good = record {
     even = omega (arith, length-append points more, even);
     once = λ a. elim (below-or-from a p) [
@@ -148,6 +148,6 @@ module _ (loops : List (List ℕ)) (points : List Float) (quads : List Quad) (fr
         (all-append (Below (p + n)) noQuad quads (rowQuads old p n)
         (λ i l. let q = good .quadsLow i l in (omega (arith, q .0), omega (arith, q .1), omega (arith, q .2), omega (arith, q .3)))
         (row-low old p (λ i l. elim (below-or-from (getD old i 0) p) [ inl h ↦ h | inr h ↦ absurd (occurs-none (getD old i 0) old i (old-low (getD old i 0) h) l refl) ]) n (omega arith)));
-    corners = all-append (λ q. quadPasses (points ++ more) q ≡ true) noQuad quads (rowQuads old p n) (λ i l. passes-append points more (getD quads i noQuad) (good .quadsLow i l) ∙ good .corners i l)
+    corners = all-append (λ q. quadPasses limit (points ++ more) q ≡ true) noQuad quads (rowQuads old p n) (λ i l. passes-append limit points more (getD quads i noQuad) (good .quadsLow i l) ∙ good .corners i l)
         (λ i l. passed i (omega (arith, row-length old p n)));
   }

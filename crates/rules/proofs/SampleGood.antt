@@ -17,6 +17,7 @@ use Rattle.state.specs.Limits.{frontLimit, frontNodeLimit}
 use Rattle.state.specs.State.{State, nodes, numbered, joined}
 use Rattle.state.specs.Given.{some}
 use Rattle.input.specs.Job.{Job, loopLimit}
+use Rattle.input.specs.Limit.{cornerLimit}
 use Rattle.state.specs.Outcome.{Outcome, refused, gives}
 use Rattle.planning.specs.Ring.{loopRing}
 use Rattle.planning.specs.Plan.{planned}
@@ -197,9 +198,9 @@ sampled-began j s e =
 
 -- ---- the invariant, with the fronts as the sampled loops
 
-fresh-good : (s : State) → Fresh s → Good (s .fronts) (s .points) (s .quads) (s .fronts)
+fresh-good : (limit : Float) (s : State) → Fresh s → Good limit (s .fronts) (s .points) (s .quads) (s .fronts)
 unfolding sidesOfAll
-fresh-good s fresh = rw (fresh .none) (record {
+fresh-good limit s fresh = rw (fresh .none) (record {
   even = fresh .even;
   once = fresh .once;
   low = fresh .low;
@@ -228,4 +229,4 @@ began-allowed n s few b =
     }
 
 pub sampled-stands : (j : Job) (s : State) → sampled j ≡ gives s → length (j .loops) ≤ loopLimit → Stands (s .fronts) s
-sampled-stands j s e few = let b = sampled-began j s e in record { good = fresh-good s (b .fresh); allowed = began-allowed (length (j .loops)) s few b }
+sampled-stands j s e few = let b = sampled-began j s e in record { good = fresh-good cornerLimit s (b .fresh); allowed = began-allowed (length (j .loops)) s few b }

@@ -18,8 +18,8 @@ every p zero = true
 every p (suc k) = every p k && p k
 
 -- the corner test of a quad on a list of points
-unfoldable pub quadPasses : List Float → Quad → Bool
-quadPasses pts q = cornersPass (pointAt pts (q .a)) (pointAt pts (q .b)) (pointAt pts (q .c)) (pointAt pts (q .d))
+unfoldable pub quadPasses : Float → List Float → Quad → Bool
+quadPasses limit pts q = cornersPass limit (pointAt pts (q .a)) (pointAt pts (q .b)) (pointAt pts (q .c)) (pointAt pts (q .d))
 
 -- ---- the candidate row
 
@@ -64,5 +64,5 @@ allClearOfFronts pts fronts li least row n = every (λ other. eqb other li || al
 abbrev pub newQuads : List Float → List ℕ → List Quad
 newQuads pts old = rowQuads old (length pts / 2) (length old)
 
-abbrev pub allCornersPass : List Float → List ℕ → List Float → Bool
-allCornersPass pts old row = every (λ i. quadPasses (pts ++ row) (getD (newQuads pts old) i (quad 0 0 0 0))) (length old)
+abbrev pub allCornersPass : Float → List Float → List ℕ → List Float → Bool
+allCornersPass limit pts old row = every (λ i. quadPasses limit (pts ++ row) (getD (newQuads pts old) i (quad 0 0 0 0))) (length old)

@@ -25,10 +25,10 @@ unfoldable pub leastOf : List Float → Quad → Float
 leastOf pts q = leastCorner (pointAt pts (q .a)) (pointAt pts (q .b)) (pointAt pts (q .c)) (pointAt pts (q .d))
 
 -- four nodes give one quad
-unfoldable pub closeFour : List Float → List ℕ → List Quad
-closeFour pts f =
+unfoldable pub closeFour : Float → List Float → List ℕ → List Quad
+closeFour limit pts f =
     let q = turnedQuad pts (quad (getD f 0 0) (getD f 1 0) (getD f 2 0) (getD f 3 0)) in
-    cond (quadPasses pts q) (q ∷ []) []
+    cond (quadPasses limit pts q) (q ∷ []) []
 
 -- Six nodes try three splits (`best_six_closure`). The split at place i joins that node with the one opposite.
 abbrev pub sixth : List ℕ → ℕ → ℕ
@@ -45,32 +45,32 @@ pub record Split : Type 0 where
   pub score : Float
 
 -- the best of the first k splits: its least corner value is the greatest, the first on a tie; with no quads while none passes
-unfoldable pub bestSplit : List Float → List ℕ → ℕ → Split
-bestSplit pts f zero = record { quads = []; score = inf false }
-bestSplit pts f (suc k) =
-    let best = bestSplit pts f k in
+unfoldable pub bestSplit : Float → List Float → List ℕ → ℕ → Split
+bestSplit limit pts f zero = record { quads = []; score = inf false }
+bestSplit limit pts f (suc k) =
+    let best = bestSplit limit pts f k in
     let p = firstHalf pts f k in
     let q = secondHalf pts f k in
     let score = lesser (leastOf pts p) (leastOf pts q) in
-    cond (quadPasses pts p && quadPasses pts q && (eqb (length (best .quads)) 0 || lt (best .score) score)) (record { quads = p ∷ q ∷ []; score = score }) best
+    cond (quadPasses limit pts p && quadPasses limit pts q && (eqb (length (best .quads)) 0 || lt (best .score) score)) (record { quads = p ∷ q ∷ []; score = score }) best
 
 -- the quads that close a front; none when it is kept
-unfoldable pub closure : List Float → List ℕ → List Quad
-closure pts f = cond (eqb (length f) 4) (closeFour pts f) (cond (eqb (length f) 6) (bestSplit pts f 3 .quads) [])
+unfoldable pub closure : Float → List Float → List ℕ → List Quad
+closure limit pts f = cond (eqb (length f) 4) (closeFour limit pts f) (cond (eqb (length f) 6) (bestSplit limit pts f 3 .quads) [])
 
 -- ---- fronts are visited by number
 
-unfoldable pub keptFronts : List Float → List (List ℕ) → List (List ℕ)
-keptFronts pts [] = []
-keptFronts pts (f ∷ fs) = cond (eqb (length (closure pts f)) 0) (f ∷ keptFronts pts fs) (keptFronts pts fs)
+unfoldable pub keptFronts : Float → List Float → List (List ℕ) → List (List ℕ)
+keptFronts limit pts [] = []
+keptFronts limit pts (f ∷ fs) = cond (eqb (length (closure limit pts f)) 0) (f ∷ keptFronts limit pts fs) (keptFronts limit pts fs)
 
-unfoldable pub closed : State → State
-closed s =
-    let added = joined (map (closure (s .points)) (s .fronts)) in
+unfoldable pub closed : Float → State → State
+closed limit s =
+    let added = joined (map (closure limit (s .points)) (s .fronts)) in
     record {
       points = s .points;
       quads = s .quads ++ added;
-      fronts = keptFronts (s .points) (s .fronts);
+      fronts = keptFronts limit (s .points) (s .fronts);
       rowQuads = s .rowQuads + length added;
       coreQuads = s .coreQuads;
       rowRounds = s .rowRounds;
@@ -79,5 +79,5 @@ closed s =
     }
 
 -- 21: the closings would pass 4,096 quads
-unfoldable pub closings : State → Outcome State
-closings s = let t = closed s in cond (ltb quadLimit (length (t .quads))) (refused 21) (gives t)
+unfoldable pub closings : Float → State → Outcome State
+closings limit s = let t = closed limit s in cond (ltb quadLimit (length (t .quads))) (refused 21) (gives t)

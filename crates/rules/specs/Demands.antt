@@ -9,6 +9,7 @@ use Rattle.float.specs.Helpers.{decimal}
 use Rattle.state.specs.State.{State, Held, Lengths, quad, nodes, zeros, reading}
 use Rattle.state.specs.Coordinates.{wrongCoordinate}
 use Rattle.input.specs.Job.{Job}
+use Rattle.input.specs.Limit.{cornerLimit}
 use Rattle.state.specs.Outcome.{Outcome, refused, gives}
 use Rattle.sampling.specs.Sample.{sampled, sampleCall}
 use Rattle.rules.specs.Checks.{quadPasses}
@@ -66,7 +67,7 @@ sampledLoops (gives s) = s .fronts
 
 -- every quad passes the corner test on the points, and each pair of nodes counts 0 or 2 times
 pub record Tiled (loops : List (List ℕ)) (s : State) : Type 0 where
-  pub corners : (i : ℕ) → i < length (s .quads) → quadPasses (s .points) (getD (s .quads) i (quad 0 0 0 0)) ≡ true
+  pub corners : (i : ℕ) → i < length (s .quads) → quadPasses cornerLimit (s .points) (getD (s .quads) i (quad 0 0 0 0)) ≡ true
   pub pairs : (a b : ℕ) → (pairCount loops s a b ≡ 0) ⊎ (pairCount loops s a b ≡ 2)
 
 -- Any way of using the calls: an accepted job or an accepted sample, then rows, closings and fans of whatever jobs and front numbers, granted or refused,

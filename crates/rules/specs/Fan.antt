@@ -84,8 +84,8 @@ fanQuads pts f c (suc k) =
     fanQuads pts f c k ++ (turnedQuad pts (quad c (getD f (2 * k % n) 0) (getD f ((2 * k + 1) % n) 0) (getD f ((2 * k + 2) % n) 0)) ∷ [])
 
 -- the fan of the one front f
-unfoldable pub fanned : Job → State → List ℕ → Outcome State
-fanned j s f =
+unfoldable pub fanned : Float → Job → State → List ℕ → Outcome State
+fanned limit j s f =
     let n = length f in
     let c = centre (rings (j .coords) (j .loops)) (nodeRing (s .points) f) in
     let pts = s .points ++ (c .point .x ∷ c .point .y ∷ []) in
@@ -95,7 +95,7 @@ fanned j s f =
     (test 24 (ltb n 4 || eqb (n % 2) 1)
     ∷ test 26 (not (isFinite (c .clearance)) || le (c .clearance) (decimal 0 0))
     ∷ test 21 (ltb pointLimit (nodes s + 1) || ltb quadLimit (length (s .quads) + n / 2))
-    ∷ test 27 (not (every (λ i. quadPasses pts (getD added i (quad 0 0 0 0))) (n / 2)))
+    ∷ test 27 (not (every (λ i. quadPasses limit pts (getD added i (quad 0 0 0 0))) (n / 2)))
     ∷ []) in
     cond (eqb number 0)
     (gives
@@ -112,5 +112,5 @@ fanned j s f =
     (refused number)
 
 -- with no front it answers done and adds nothing; 23: more than one front
-unfoldable pub fan : Job → State → Outcome State
-fan j s = elim (s .fronts) [ [] ↦ gives s | f ∷ fs ↦ cond (eqb (length fs) 0) (fanned j s f) (refused 23) ]
+unfoldable pub fan : Float → Job → State → Outcome State
+fan limit j s = elim (s .fronts) [ [] ↦ gives s | f ∷ fs ↦ cond (eqb (length fs) 0) (fanned limit j s f) (refused 23) ]

@@ -1,5 +1,4 @@
 use Rattle.geometry.specs.Measures.{cornerPasses}
-use Rattle.geometry.proofs.Literals.{limit-is}
 use borrow.Author.Needs.{needs}
 use Rattle.geometry.proofs.corners.corner_passes.Statement.{statement}
 use Rattle.geometry.proofs.corners.corner_passes.Tie as tie
@@ -12,7 +11,7 @@ is-finite-requires c κs = search needs
 
 returns : tie.Need-returns
 unfolding cornerPasses
-returns c = rw (limit-is, ← c .before .before .corner-value .ensures, ← c .before .is-finite .ensures, c .if1 .taken)
+returns c = rw (← c .before .before .corner-value .ensures, ← c .before .is-finite .ensures, c .if1 .taken)
 
 returns-2 : tie.Need-returns-2
 unfolding cornerPasses

@@ -17,12 +17,12 @@ use Rattle.row_checks.proofs.quads.all_quads_stand.Statement.{statement
 use Rattle.row_checks.proofs.quads.all_quads_stand.Tie as tie
 
 abbrev Inv-loop : tie.InvT-loop
-Inv-loop points old row n least a₀ d₀ rung₀ i₀ a d rung i =
-    (i ≤ n) × (every (longEnough least row n) i ≡ true) × (every (cornersGood points old row n) i ≡ true)
+Inv-loop points old row n least limit a₀ d₀ rung₀ i₀ a d rung i =
+    (i ≤ n) × (every (longEnough least row n) i ≡ true) × (every (cornersGood limit points old row n) i ≡ true)
     × (rung ≡ sideLength a d) × (i < n → (a ≡ pointAt points (getD old i 0)) × (d ≡ pointAt row i))
 
 abbrev μ-loop : tie.MeasureT-loop
-μ-loop points old row n least a₀ d₀ rung₀ i₀ a d rung i = n - i
+μ-loop points old row n least limit a₀ d₀ rung₀ i₀ a d rung i = n - i
 
 node-point-requires : tie.Need-node-point-requires Inv-loop μ-loop
 node-point-requires c κs =
@@ -66,7 +66,7 @@ returns c =
     let l = at-loop-test .loop-test .taken in
     let w = t .loop .inv .4 l in
     let s = side-of (a .row .now) (a .n) (t .loop .i) (c .before .side-length2 .ensures) (w .1) (c .before .before .point-at2 .ensures) (at-next-of .next-of .ensures .0) in
-    ap (λ b. b && every (cornersGood (a .points .now) (a .old .now) (a .row .now) (a .n)) (a .n))
+    ap (λ b. b && every (cornersGood (a .limit) (a .points .now) (a .old .now) (a .row .now) (a .n)) (a .n))
     (every-stops (longEnough (a .least) (a .row .now) (a .n)) (t .loop .i) (a .n) l (too-near (a .least) s (c .if1 .taken)))
 
 side-length-requires-3 : tie.Need-side-length-requires-3 Inv-loop μ-loop
@@ -96,8 +96,8 @@ returns-2 c =
     let t : tie.At-loop Inv-loop μ-loop = search in
     let l = at-loop-test .loop-test .taken in
     let w = t .loop .inv .4 l in
-    let q = corners-of (a .points .now) (a .row .now) (a .old .now) (a .n) (t .loop .i) (c .before .corners-pass-with .ensures) (w .0) (at-node-point2 .node-point2 .ensures) (at-point-at2 .point-at2 .ensures) (w .1) (at-next-of .next-of .ensures .0) (not-true _ (c .if2 .taken)) in
-    let e = every-stops (cornersGood (a .points .now) (a .old .now) (a .row .now) (a .n)) (t .loop .i) (a .n) l q in
+    let q = corners-of (a .limit) (a .points .now) (a .row .now) (a .old .now) (a .n) (t .loop .i) (c .before .corners-pass-with .ensures) (w .0) (at-node-point2 .node-point2 .ensures) (at-point-at2 .point-at2 .ensures) (w .1) (at-next-of .next-of .ensures .0) (not-true _ (c .if2 .taken)) in
+    let e = every-stops (cornersGood (a .limit) (a .points .now) (a .old .now) (a .row .now) (a .n)) (t .loop .i) (a .n) l q in
     sym (and-false (every (longEnough (a .least) (a .row .now) (a .n)) (a .n))) ∙ ap (λ b. every (longEnough (a .least) (a .row .now) (a .n)) (a .n) && b) e
 
 add-i : tie.Need-add-i Inv-loop μ-loop
@@ -128,10 +128,10 @@ loop-again c =
     let b-is = at-node-point2 .node-point2 .ensures in
     let c-is = at-point-at2 .point-at2 .ensures in
     let s = side-of (a .row .now) (a .n) (t .loop .i) (at-side-length2 .side-length2 .ensures) (w .1) c-is next-is in
-    let q = corners-of (a .points .now) (a .row .now) (a .old .now) (a .n) (t .loop .i) (c .before .corners-pass-with .ensures) (w .0) b-is c-is (w .1) next-is (not-false _ (c .if2 .left)) in (
+    let q = corners-of (a .limit) (a .points .now) (a .row .now) (a .old .now) (a .n) (t .loop .i) (c .before .corners-pass-with .ensures) (w .0) b-is c-is (w .1) next-is (not-false _ (c .if2 .left)) in (
       omega (arith, l),
       every-more (longEnough (a .least) (a .row .now) (a .n)) (t .loop .i) (t .loop .inv .1) (far-enough (a .least) s (at-if1 .if1 .left)),
-      every-more (cornersGood (a .points .now) (a .old .now) (a .row .now) (a .n)) (t .loop .i) (t .loop .inv .2) q,
+      every-more (cornersGood (a .limit) (a .points .now) (a .old .now) (a .row .now) (a .n)) (t .loop .i) (t .loop .inv .2) q,
       c .before .before .side-length4 .ensures,
       λ m. let e = next-inner (a .n) (t .loop .i) l next-is m in
           (b-is ∙ ap (λ (k : ℕ). pointAt (a .points .now) (getD (a .old .now) k 0)) e, c-is ∙ ap (pointAt (a .row .now)) e),
@@ -143,8 +143,8 @@ returns-3 c =
     let a = entry .args in
     let t = c .before in
     let e : t .loop .i ≡ a .n = omega arith in
-    every-end (cornersGood (a .points .now) (a .old .now) (a .row .now) (a .n)) (t .loop .i) (a .n) (t .loop .inv .2) e
-    ∙ ap (λ b. b && every (cornersGood (a .points .now) (a .old .now) (a .row .now) (a .n)) (a .n)) (every-end (longEnough (a .least) (a .row .now) (a .n)) (t .loop .i) (a .n) (t .loop .inv .1) e)
+    every-end (cornersGood (a .limit) (a .points .now) (a .old .now) (a .row .now) (a .n)) (t .loop .i) (a .n) (t .loop .inv .2) e
+    ∙ ap (λ b. b && every (cornersGood (a .limit) (a .points .now) (a .old .now) (a .row .now) (a .n)) (a .n)) (every-end (longEnough (a .least) (a .row .now) (a .n)) (t .loop .i) (a .n) (t .loop .inv .1) e)
 
 pub all-quads-stand-spec : {M : Type 1} → statement M
 all-quads-stand-spec =
