@@ -9,9 +9,6 @@ use Rattle.state.specs.declared.Counts.{Counts}
 use Rattle.state.specs.State.{Held, Lengths, zeros}
 use Rattle.state.specs.Call.{Left, held, numberOf}
 use Rattle.input.specs.declared.Options.{Options}
-use Rattle.input.specs.Job.{Job}
-use Rattle.sampling.specs.Sample.{sampleCall}
-use Rattle.rules.specs.RowCall.{rowCall}
 
 abbrev pub optionsOf : Float → Float → Float → ℕ → Bool → Options
 optionsOf margin edge gap rounds s = record { «corner_margin» = margin; «min_edge_fraction» = edge; «front_gap» = gap; «max_row_rounds» = rounds; seam = s }
@@ -54,10 +51,10 @@ passedWith n b c = passed n (b .points) (b .quads) (b .frontNodes) (b .frontLeng
 abbrev pub passedAs : Left → Passed
 passedAs x = passedWith (numberOf x) (x .held) (countList (x .held .counts))
 
--- `pave_sample` with a slice of c counts: another length than eight is number 1, and all zeros
-unfoldable pub samplePassed : Job → Lengths → ℕ → Passed
-samplePassed j l c = cond (eqb c 8) (passedAs (sampleCall j l)) (passedWith 1 (zeros l) (replicate c 0))
+-- A call on a job with a slice of c counts: another length than eight is number 1, and all zeros.
+unfoldable pub jobPassed : Left → Lengths → ℕ → Passed
+jobPassed x l c = cond (eqb c 8) (passedAs x) (passedWith 1 (zeros l) (replicate c 0))
 
--- `pave_row`: another length than eight is number 1, and nothing changes
-unfoldable pub rowPassed : Job → ℕ → List Float → List ℕ → List ℕ → List ℕ → List ℕ → Passed
-rowPassed j front p q n l c = cond (eqb (length c) 8) (passedAs (rowCall j front (held p q n l (countsFrom c)))) (passed 1 p q n l c)
+-- A call on a state in these slices: another length than eight is number 1, and nothing changes.
+unfoldable pub statePassed : (Held → Left) → List Float → List ℕ → List ℕ → List ℕ → List ℕ → Passed
+statePassed call p q n l c = cond (eqb (length c) 8) (passedAs (call (held p q n l (countsFrom c)))) (passed 1 p q n l c)

@@ -4,7 +4,9 @@ ghost use mathlib.Core.Path.{_≡_};
 ghost use lib.ListN.{length};
 ghost use Rattle.state.specs.Call.{lengthsOf};
 ghost use Rattle.input.specs.Job.{job};
-ghost use Rattle.exports.specs.Calls.{optionsOf, passed, rowPassed, samplePassed};
+ghost use Rattle.sampling.specs.Sample.{sampleCall};
+ghost use Rattle.rules.specs.RowCall.{rowCall};
+ghost use Rattle.exports.specs.Calls.{jobPassed, optionsOf, passed, statePassed};
 use crate::counts::clear_counts;
 use crate::counts::counts_of;
 use crate::counts::put_counts;
@@ -47,7 +49,9 @@ pub extern "C" fn pave_sample(
     counts: &mut [u64],
 ) -> u32
     ensures { λ r. ⌜ passed r (now (points .exit)) (now (quads .exit)) (now («front_nodes» .exit)) (now («front_lengths» .exit)) (now (counts .exit))
-        ≡ samplePassed (job (now (coords .entry)) (now («loop_lengths» .entry)) h (optionsOf «corner_margin» «min_edge_fraction» «front_gap» «max_row_rounds» seam))
+        ≡ jobPassed
+        (sampleCall (job (now (coords .entry)) (now («loop_lengths» .entry)) h (optionsOf «corner_margin» «min_edge_fraction» «front_gap» «max_row_rounds» seam))
+        (lengthsOf (length (now (points .entry))) (length (now (quads .entry))) (length (now («front_nodes» .entry))) (length (now («front_lengths» .entry)))))
         (lengthsOf (length (now (points .entry))) (length (now (quads .entry))) (length (now («front_nodes» .entry))) (length (now («front_lengths» .entry)))) (length (now (counts .entry))) ⌝ }
 {
     if counts.len() != 8 {
@@ -103,7 +107,9 @@ pub extern "C" fn pave_row(
     counts: &mut [u64],
 ) -> u32
     ensures { λ r. ⌜ passed r (now (points .exit)) (now (quads .exit)) (now («front_nodes» .exit)) (now («front_lengths» .exit)) (now (counts .exit))
-        ≡ rowPassed (job (now (coords .entry)) (now («loop_lengths» .entry)) h (optionsOf «corner_margin» «min_edge_fraction» «front_gap» «max_row_rounds» seam)) front (now (points .entry)) (now (quads .entry)) (now («front_nodes» .entry)) (now («front_lengths» .entry)) (now (counts .entry)) ⌝ }
+        ≡ statePassed
+        (rowCall (job (now (coords .entry)) (now («loop_lengths» .entry)) h (optionsOf «corner_margin» «min_edge_fraction» «front_gap» «max_row_rounds» seam)) front)
+        (now (points .entry)) (now (quads .entry)) (now («front_nodes» .entry)) (now («front_lengths» .entry)) (now (counts .entry)) ⌝ }
 {
     if counts.len() != 8 {
         return 1;

@@ -1,14 +1,33 @@
 -- `exports::calls::pave_row` meets its contract.
 use mathlib.Core.Path.{refl}
-use Rattle.exports.proofs.Slices.{row-short, row-done, row-refused}
+use Rattle.state.specs.State.{Held}
+use Rattle.state.specs.Call.{Left}
+use Rattle.input.specs.declared.Options.{Options}
+use Rattle.input.specs.Job.{job}
+use Rattle.rules.specs.RowCall.{rowCall}
+use Rattle.exports.specs.Calls.{optionsOf}
+use Rattle.exports.proofs.Slices.{state-short, state-done, state-refused}
 use borrow.Author.Needs.{needs}
 use Rattle.exports.proofs.calls.pave_row.Statement.{statement}
 use Rattle.exports.proofs.calls.pave_row.Tie as tie
 
+-- the call, by the options that it gets
+abbrev call : tie.Start → Options → Held → Left
+call s o = rowCall (job (s .args .coords .now) (s .args .loop-lengths .now) (s .args .h) o) (s .args .front)
+
+abbrev options : tie.Start → Options
+options s = optionsOf (s .args .corner-margin) (s .args .min-edge-fraction) (s .args .front-gap) (s .args .max-row-rounds) (s .args .seam)
+
+abbrev start : tie.Else1 → tie.Start
+start c = search
+
+abbrev short : tie.Then1 → tie.Start
+short c = search
+
 returns : tie.Need-returns
 returns c =
     let at-if1 : tie.Then1 = search in
-    row-short _ _ _ _ _ refl _ _ _ _ _ _ (at-if1 .if1 .taken)
+    state-short (call (short at-if1)) (options (short at-if1)) _ refl _ _ _ _ _ (at-if1 .if1 .taken)
 
 options-of-requires : tie.Need-options-of-requires
 options-of-requires c κs = search needs
@@ -51,7 +70,7 @@ returns-2 c =
     let at-counts-of : tie.After-counts-of = search in
     let at-options-of : tie.After-options-of = search in
     let at-if1 : tie.Else1 = search in
-    row-done _ _ _ _ _ (at-options-of .options-of .ensures) _ _ _ _ _ _ _ _ _ _ (at-if1 .if1 .left) _ (at-counts-of .counts-of .ensures) _ (at-row .row .ensures) _ (at-answer .answer .given .1) (at-put-counts .put-counts .ensures)
+    state-done (call (start at-if1)) _ _ (at-options-of .options-of .ensures) _ _ _ _ _ _ _ _ _ (at-if1 .if1 .left) _ (at-counts-of .counts-of .ensures) _ (at-row .row .ensures) _ (at-answer .answer .given .1) (at-put-counts .put-counts .ensures)
 
 same-length-6 : tie.Need-same-length-6
 same-length-6 c = search needs
@@ -75,7 +94,7 @@ returns-3 c =
     let at-counts-of : tie.After-counts-of = search in
     let at-options-of : tie.After-options-of = search in
     let at-if1 : tie.Else1 = search in
-    row-refused _ _ _ _ _ (at-options-of .options-of .ensures) _ _ _ _ _ _ _ _ _ _ (at-if1 .if1 .left) _ (at-counts-of .counts-of .ensures) _ (at-row .row .ensures) _ (at-answer .answer2 .given .1)
+    state-refused (call (start at-if1)) _ _ (at-options-of .options-of .ensures) _ _ _ _ _ _ _ _ _ (at-if1 .if1 .left) _ (at-counts-of .counts-of .ensures) _ (at-row .row .ensures) _ (at-answer .answer2 .given .1)
 
 pub pave-row-spec : {M : Type 1} → statement M
 pave-row-spec =

@@ -1,6 +1,11 @@
 -- `exports::calls::pave_sample` meets its contract.
+use lib.ListN.{length}
+use Rattle.state.specs.Call.{Left, lengthsOf}
+use Rattle.input.specs.declared.Options.{Options}
+use Rattle.input.specs.Job.{job}
+use Rattle.sampling.specs.Sample.{sampleCall}
 use Rattle.exports.specs.Calls.{optionsOf}
-use Rattle.exports.proofs.Slices.{sample-short, sample-done, sample-refused}
+use Rattle.exports.proofs.Slices.{job-short, job-done, job-refused}
 use mathlib.Core.Path.{refl}
 use borrow.Author.Needs.{needs}
 use Rattle.exports.proofs.calls.pave_sample.Statement.{statement}
@@ -27,6 +32,13 @@ same-length-4 c = search needs
 same-length-5 : tie.Need-same-length-5
 same-length-5 c = search needs
 
+-- the call, by the options that it gets
+abbrev call : tie.Start → Options → Left
+call s o = sampleCall (job (s .args .coords .now) (s .args .loop-lengths .now) (s .args .h) o) (lengthsOf (length (s .args .points .now)) (length (s .args .quads .now)) (length (s .args .front-nodes .now)) (length (s .args .front-lengths .now)))
+
+abbrev options : tie.Start → Options
+options s = optionsOf (s .args .corner-margin) (s .args .min-edge-fraction) (s .args .front-gap) (s .args .max-row-rounds) (s .args .seam)
+
 abbrev start : tie.Else1 → tie.Start
 start c = search
 
@@ -38,8 +50,7 @@ returns c =
     let at-clear-counts : tie.After-clear-counts = search in
     let at-clear-all : tie.After-clear-all = search in
     let at-if1 : tie.Then1 = search in
-    let o = optionsOf (short at-if1 .args .corner-margin) (short at-if1 .args .min-edge-fraction) (short at-if1 .args .front-gap) (short at-if1 .args .max-row-rounds) (short at-if1 .args .seam) in
-    sample-short _ _ _ o o refl _ _ _ _ _ (short at-if1 .args .counts .now) (at-if1 .if1 .taken) (at-clear-all .clear-all .ensures) (at-clear-counts .clear-counts .ensures)
+    job-short (call (short at-if1)) (options (short at-if1)) _ refl _ _ _ _ _ (short at-if1 .args .counts .now) (at-if1 .if1 .taken) (at-clear-all .clear-all .ensures) (at-clear-counts .clear-counts .ensures)
 
 options-of-requires : tie.Need-options-of-requires
 options-of-requires c κs = search needs
@@ -81,7 +92,7 @@ returns-2 c =
     let at-sample : tie.After-sample = search in
     let at-options-of : tie.After-options-of = search in
     let at-if1 : tie.Else1 = search in
-    sample-done _ _ _ _ _ (at-options-of .options-of .ensures) _ _ _ _ _ (start at-if1 .args .counts .now) (at-if1 .if1 .left) _ (at-sample .sample .ensures) _ (at-answer .answer .given .1) (at-put-counts .put-counts .ensures)
+    job-done (call (start at-if1)) _ _ (at-options-of .options-of .ensures) _ _ _ _ _ (start at-if1 .args .counts .now) (at-if1 .if1 .left) _ (at-sample .sample .ensures) _ (at-answer .answer .given .1) (at-put-counts .put-counts .ensures)
 
 same-length-11 : tie.Need-same-length-11
 same-length-11 c = search needs
@@ -105,7 +116,7 @@ returns-3 c =
     let at-sample : tie.After-sample = search in
     let at-options-of : tie.After-options-of = search in
     let at-if1 : tie.Else1 = search in
-    sample-refused _ _ _ _ _ (at-options-of .options-of .ensures) _ _ _ _ _ (start at-if1 .args .counts .now) (at-if1 .if1 .left) _ (at-sample .sample .ensures) _ (at-answer .answer2 .given .1) (at-clear-counts .clear-counts2 .ensures)
+    job-refused (call (start at-if1)) _ _ (at-options-of .options-of .ensures) _ _ _ _ _ (start at-if1 .args .counts .now) (at-if1 .if1 .left) _ (at-sample .sample .ensures) _ (at-answer .answer2 .given .1) (at-clear-counts .clear-counts2 .ensures)
 
 pub pave-sample-spec : {M : Type 1} → statement M
 pave-sample-spec =
