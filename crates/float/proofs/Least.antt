@@ -13,7 +13,7 @@ use borrow.Author.Tests.{ltb-false}
 use Rattle.float.specs.Helpers.{decimal, lesser}
 use Rattle.float.specs.Root.{root}
 use Rattle.float.proofs.Signs.{clash, yes, fits-zero}
-use Rattle.float.proofs.Theorems.{same-value}
+use Rattle.float.proofs.Nearest.{same-value}
 use Rattle.float.proofs.Order.{clear, suc-positive, not-both, or-l, or-r, zero-le, root-clear, root-number, root-fits, root-monotone}
 
 -- ---- the order of two values whose sign is clear

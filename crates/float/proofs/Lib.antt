@@ -10,7 +10,8 @@ pub mod Patterns
 pub mod Words
 pub mod Close
 pub mod Squares
-pub mod Theorems
+pub mod Nearest
 pub mod Order
 pub mod Least
+pub mod Theorems
 pub mod Bounds

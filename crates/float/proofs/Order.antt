@@ -17,13 +17,14 @@ use lib.Ieee.Order.{le-of-values}
 use lib.Ieee.Positive.{num, den, positive, den-pos, le→cross, above, above-of-le}
 use Rattle.float.specs.Helpers.{decimal}
 use Rattle.float.specs.Root.{root}
+pub use Rattle.float.specs.RootTheorems.{clear}
 use Rattle.float.proofs.Signs.{clash, yes}
 use Rattle.float.proofs.Held.{pow-lt-back}
 use Rattle.float.proofs.Whole.{root-mono}
 use Rattle.float.proofs.Scaled.{Scaled, moved, found, four, size-of, moved-times, is-root, least-kept, most-kept, root-value}
 use Rattle.float.proofs.Patterns.{scaled, root-of}
 use Rattle.float.proofs.Patterns as patterns
-use Rattle.float.proofs.Theorems.{root-nearest}
+use Rattle.float.proofs.Nearest.{root-nearest}
 
 -- ---- in units
 module _ (n s w n' s' w' : ℕ) (S : Scaled n s w) (S' : Scaled n' s' w') (h : n ≤ n') where
@@ -74,12 +75,6 @@ positive-mono x y F G p q h =
     (subst (λ (v : Float). HasValue v false a l) (sym (root-of x p)) (root-value (patterns.units x) (S .0) (S .1) (S .2)))
     (subst (λ (v : Float). HasValue v false b l) (sym (root-of y q)) (root-value (patterns.units y) (S' .0) (S' .1) (S' .2)))
     (mul-le-mul-right l (roots-mono (patterns.units x) (S .0) (S .1) (patterns.units y) (S' .0) (S' .1) (S .2) (S' .2) u))
-
--- ---- a NaN, or a value whose sign is clear
-abbrev pub clear : Float → Bool
-clear nan = true
-clear (inf s) = not s
-clear (fin s m e) = not s
 
 -- above 0 unless it is the zero
 pub suc-positive : (m : ℕ) (e : ℤ) → T (positive (fin false (suc m) e))
@@ -176,7 +171,7 @@ root-clear (inf true) F c = absurd c
 root-clear (inf false) F c = tt
 root-clear (fin true m e) F c = absurd c
 root-clear (fin false zero e) F c = tt
-root-clear (fin false (suc m) e) F c = positive-clear (root (fin false (suc m) e)) (root-nearest (fin false (suc m) e) F (suc-positive m e) .above-zero)
+root-clear (fin false (suc m) e) F c = positive-clear (root (fin false (suc m) e)) (root-nearest (fin false (suc m) e) F (suc-positive m e) .aboveZero)
   where
     positive-clear : (v : Float) → T (positive v) → T (clear v)
     positive-clear nan p = tt
@@ -197,7 +192,7 @@ root-number (inf true) F c n = absurd c
 root-number (inf false) F c n = tt
 root-number (fin true m e) F c n = absurd c
 root-number (fin false zero e) F c n = tt
-root-number (fin false (suc m) e) F c n = positive-number (root (fin false (suc m) e)) (root-nearest (fin false (suc m) e) F (suc-positive m e) .above-zero)
+root-number (fin false (suc m) e) F c n = positive-number (root (fin false (suc m) e)) (root-nearest (fin false (suc m) e) F (suc-positive m e) .aboveZero)
 
 pub root-fits : (x : Float) → T (fits binary64 x) → T (fits binary64 (root x))
 unfolding root fits
@@ -206,7 +201,7 @@ root-fits (inf true) F = tt
 root-fits (inf false) F = tt
 root-fits (fin s zero e) F = F
 root-fits (fin true (suc m) e) F = tt
-root-fits (fin false (suc m) e) F = root-nearest (fin false (suc m) e) F (suc-positive m e) .is-f64
+root-fits (fin false (suc m) e) F = root-nearest (fin false (suc m) e) F (suc-positive m e) .isF64
 
 positive-endless : (v : Float) → T (positive v) → T (le v (inf false))
 unfolding le lt
@@ -238,7 +233,7 @@ above-zero-mono : (m : ℕ) (e : ℤ) (y : Float) → T (fits binary64 (fin fals
 unfolding root
 above-zero-mono m e nan F G h a = absurd a
 above-zero-mono m e (inf true) F G h a = absurd a
-above-zero-mono m e (inf false) F G h a = positive-endless (root (fin false (suc m) e)) (root-nearest (fin false (suc m) e) F (suc-positive m e) .above-zero)
+above-zero-mono m e (inf false) F G h a = positive-endless (root (fin false (suc m) e)) (root-nearest (fin false (suc m) e) F (suc-positive m e) .aboveZero)
 above-zero-mono m e (fin true n d) F G h a = absurd a
 above-zero-mono m e (fin false zero d) F G h a = absurd a
 above-zero-mono m e (fin false (suc n) d) F G h a = positive-mono (fin false (suc m) e) (fin false (suc n) d) F G (suc-positive m e) (suc-positive n d) h

@@ -1,3 +1,4 @@
 pub mod Helpers
 pub mod Root
+pub mod RootTheorems
 pub mod Values

@@ -1,4 +1,4 @@
--- The square root of an f64: the f64 nearest to the exact root (IEEE 754), over whole numbers. Definitions only.
+-- The square root of an f64: the f64 nearest to the exact root (IEEE 754), over whole numbers. Definitions only; RootTheorems.antt states that it is the nearest.
 use Prim.Native.Nat.{ℕ, zero, suc, _+_, _*_, _/_, _^_}
 use mathlib.Core.Bool.{true, false, cond}
 use lib.Dec.{leb, eqb}
