@@ -23,6 +23,9 @@ ITEMS = {
     "mesh": ["type Node", "enum Kind", "struct Cell", "Cell::quad4"],
     "two_d": [
         "struct Domain",
+        "enum TwoDError",
+        "Domain::new",
+        "Domain::validate",
         "Domain::area",
         "Domain::segments",
         "Domain::contains",
@@ -87,23 +90,28 @@ MEASURES = [
     (4, "fn quad_ok", "quality::quad_angles(&cell, points)", "quality::no_angles()"),
 ]
 
-# The added limits, tested around the Rust in document 01's order, and the two
-# counts that the port adds, as (item, old, new). What each does is in limits.rs.
+# The two counts that the port adds, and where a run can stop, as (item, old, new).
+# What each does is in limits.rs.
 HOOKS = [
     ("fn mesh_with_stats_options", "Result<(Mesh, Stats), String>", "Result<Paving, String>"),
-    ("fn mesh_with_stats_options", "if domain.outer.len()",
-     "limits::options(sizing.size, options)?;\n    if domain.outer.len()"),
-    ("fn mesh_with_stats_options", "if domain.area()",
-     "limits::coordinates(domain)?;\n    if domain.area()"),
     ("fn mesh_with_stats_options", "let h = ", "limits::stop_after_checks()?;\n    let h = "),
     ("fn mesh_with_stats_options", "// Row loop",
      "if limits::only_sampling() { return Ok(paving); }\n    // Row loop"),
     ("fn mesh_with_stats_options", "let mut advanced",
      "limits::pass_begun();\n        let mut advanced"),
-    ("fn mesh_with_stats_options", "commit_row(",
-     "limits::room(&paving, row.new_points.len(), row.quads.len())?;\n                commit_row("),
     ("fn mesh_with_stats_options", "close_small_fronts(",
      "limits::rows_stopped(&paving);\n    close_small_fronts("),
+]
+
+# The added limits, tested within the Rust in document 01's order, in the same form.
+LIMITS = [
+    ("fn mesh_with_stats_options", "if domain.outer.len()",
+     "limits::options(sizing.size, options)?;\n    if domain.outer.len()"),
+    ("fn mesh_with_stats_options", "if domain.area()",
+     "limits::coordinates(domain)?;\n    if domain.area()"),
+    ("fn mesh_with_stats_options", "commit_row(",
+     "limits::room(&paving, row.new_points.len(), row.quads.len())?;\n                commit_row("),
+    ("fn mesh_with_stats_options", "Ok(paving)\n}", "limits::room(&paving, 0, 0)?;\n    Ok(paving)\n}"),
     ("fn sample_loop", "let mut out =", "limits::planned(n, &parts)?;\n    let mut out ="),
     ("fn fan_fill", "let center =", "limits::room(paving, 1, n / 2)?;\n    let center ="),
 ]
@@ -119,9 +127,10 @@ HEADS = {
         "use crate::quality;\n"
         "use super::mesh::{Cell, Node};\n"
         "use super::two_d::{Domain, Sizing};\n\n"
-        "/// Never reached: a job with seam true is refused with number 3.\n"
+        "/// Not cut: it calls a file that is not among the listed ones. A job with seam\n"
+        "/// true is refused with number 3, so it is reached without the limits alone.\n"
         "fn seam_row(_: &Paving, _: usize, _: usize, _: &[usize], _: &[[f64; 2]], _: f64)"
-        " -> Option<Row> {\n    unreachable!(\"seam is false\")\n}\n\n"
+        " -> Option<Row> {\n    panic!(\"seam_row is called\")\n}\n\n"
     ),
 }
 
@@ -187,7 +196,7 @@ def cut(lines, item):
         if text.count(LAST_STATEMENT) != 1:
             raise Fault(f"{item}: the closing stands {text.count(LAST_STATEMENT)} times")
         text = text.split(LAST_STATEMENT)[0] + LAST_STATEMENT
-        text += "\n    limits::room(&paving, 0, 0)?;\n    Ok(paving)\n}"
+        text += "\n    Ok(paving)\n}"
     return text
 
 
@@ -205,6 +214,7 @@ def replaced(item, text, replacements):
 DERIVES = {
     "enum Kind": "#[derive(Clone, Copy, Debug, PartialEq, Eq)]\n",
     "struct Cell": "#[derive(Clone, Debug, PartialEq, Eq)]\n",
+    "enum TwoDError": "#[derive(Clone, Debug, PartialEq, Eq)]\n",
     "struct Domain": "#[derive(Clone, Debug, Default)]\n",
     "struct Sizing": "#[derive(Clone, Copy, Debug)]\n",
     "struct Options": "#[derive(Clone, Copy, Debug)]\n",
@@ -227,8 +237,11 @@ def module(file, text, replacements):
 def generate(folder, without=None):
     """The text of cut.rs, the files that differ, and the replacements made.
 
-    A measure can be left out, to show what it changes."""
+    A measure (1 or 2) or the added limits ("limits") can be left out, to show
+    what they change."""
     replacements = [m[1:] for m in MEASURES if m[0] != without] + HOOKS
+    if without != "limits":
+        replacements += LIMITS
     for item, old, _ in replacements:
         if item not in ITEMS["alt_paving"]:
             raise Fault(f"{item} is not cut, and {old!r} not replaced")

@@ -136,8 +136,21 @@ impl Buffers {
         }
     }
 
+    /// As long as a state needs that the added limits do not hold; node numbers stay u16.
+    fn grow(&mut self, paving: &Paving) {
+        assert!(paving.points.len() <= 65_536, "more points than u16 can number");
+        let nodes = paving.loops.iter().map(Vec::len).sum();
+        self.points.resize(self.points.len().max(2 * paving.points.len()), 0.0);
+        self.quads.resize(self.quads.len().max(4 * paving.quads.len()), 0);
+        self.front_nodes.resize(self.front_nodes.len().max(nodes), 0);
+        self.front_lengths.resize(self.front_lengths.len().max(paving.loops.len()), 0);
+    }
+
     /// A state written from the front of each buffer, zeros behind.
     fn write(&mut self, paving: &Paving) {
+        if !limits::ADDED {
+            self.grow(paving);
+        }
         self.zero();
         for (i, p) in paving.points.iter().enumerate() {
             self.points[2 * i] = p[0];
@@ -189,11 +202,12 @@ pub fn domain_of(job: &Job) -> Domain {
 
 /// Document 01's number for an error text of the Rust or of an added limit.
 fn number(error: &str) -> u8 {
-    let texts: [(&str, u8); 14] = [
+    let texts: [(&str, u8); 15] = [
         ("the element size", 2),
         ("limit 3", 3),
         ("the outer loop needs", 4),
         ("limit 5", 5),
+        ("a boundary coordinate is not finite", 5),
         ("the domain has no area", 6),
         ("a boundary loop has fewer", 7),
         ("sampling loop left", 8),
@@ -220,7 +234,7 @@ fn run(job: &Job, until: Until) -> Result<Paving, u8> {
 }
 
 fn job_until(job: &Job, buffers: &mut Buffers, until: Until) -> (u8, Counts) {
-    let answer = if shape_fits(job, buffers) { run(job, until) } else { Err(1) };
+    let answer = if !limits::ADDED || shape_fits(job, buffers) { run(job, until) } else { Err(1) };
     match answer {
         Ok(paving) => {
             buffers.write(&paving);
@@ -278,7 +292,7 @@ fn state_fits(buffers: &Buffers, c: &Counts) -> bool {
 
 /// Numbers 1 to 6 for the job, then 25.
 fn state(job: &Job, buffers: &Buffers, counts: &Counts) -> Result<Paving, u8> {
-    if !shape_fits(job, buffers) {
+    if limits::ADDED && !shape_fits(job, buffers) {
         return Err(1);
     }
     match run(job, Until::Checks) {
@@ -286,7 +300,7 @@ fn state(job: &Job, buffers: &Buffers, counts: &Counts) -> Result<Paving, u8> {
         Err(n) => return Err(n),
         Ok(_) => unreachable!("the checks end the run"),
     }
-    if !state_fits(buffers, counts) {
+    if limits::ADDED && !state_fits(buffers, counts) {
         return Err(25);
     }
     Ok(buffers.read(counts))
@@ -307,11 +321,13 @@ fn answer(
 
 fn try_row(job: &Job, front: usize, buffers: &Buffers, counts: &Counts) -> Result<(Paving, usize), u8> {
     let mut paving = state(job, buffers, counts)?;
-    if front >= paving.loops.len() {
+    if limits::ADDED && front >= paving.loops.len() {
         return Err(20);
     }
     let row = rust::next_row(&paving, front, &domain_of(job), job.h, &job.options).ok_or(22u8)?;
-    limits::room(&paving, row.new_points.len(), row.quads.len()).map_err(|e| number(&e))?;
+    if limits::ADDED {
+        limits::room(&paving, row.new_points.len(), row.quads.len()).map_err(|e| number(&e))?;
+    }
     rust::commit_row(&mut paving, front, row);
     let laid = paving.quads.len();
     Ok((paving, laid))
@@ -345,7 +361,9 @@ impl Ready {
 fn try_close(job: &Job, buffers: &Buffers, counts: &Counts) -> Result<(Paving, usize), u8> {
     let mut paving = state(job, buffers, counts)?;
     rust::close_small_fronts(&mut paving);
-    limits::room(&paving, 0, 0).map_err(|e| number(&e))?;
+    if limits::ADDED {
+        limits::room(&paving, 0, 0).map_err(|e| number(&e))?;
+    }
     Ok((paving, counts.laid))
 }
 
@@ -366,6 +384,20 @@ fn try_fan(job: &Job, buffers: &Buffers, counts: &Counts) -> Result<(Paving, usi
 
 /// The fan of a given state.
 pub fn fan(job: &Job, buffers: &mut Buffers, counts: Counts) -> (u8, Counts) {
+    if !limits::ADDED {
+        return fan_alone(job, buffers, counts);
+    }
     let result = try_fan(job, buffers, &counts);
     answer(buffers, counts, result)
+}
+
+/// The Rust's fan alone: what it leaves is written also when it gives an error.
+fn fan_alone(job: &Job, buffers: &mut Buffers, counts: Counts) -> (u8, Counts) {
+    let mut paving = match state(job, buffers, &counts) {
+        Ok(paving) => paving,
+        Err(n) => return (n, counts),
+    };
+    let result = rust::fan_fill(&mut paving, &domain_of(job));
+    buffers.write(&paving);
+    (result.err().map_or(0, |e| number(&e)), counts_of(&paving, counts.passes, counts.laid))
 }

@@ -78,6 +78,15 @@ pub fn domain_area(job: &Job) -> f64 {
     domain_of(job).area()
 }
 
+/// What `Domain::new` says to the job's loops.
+pub fn domain_new(job: &Job) -> String {
+    let given = domain_of(job);
+    match two_d::Domain::new(given.outer, given.holes) {
+        Ok(_) => "done".to_string(),
+        Err(why) => format!("refused\t{why:?}"),
+    }
+}
+
 pub fn domain_contains(job: &Job, p: Point) -> bool {
     domain_of(job).contains(p)
 }

@@ -5,6 +5,10 @@ use crate::cut::alt_paving::{Options, Paving};
 use crate::cut::two_d::Domain;
 use std::cell::Cell;
 
+/// Whether a call tests the limits that the port adds: `oracle/build --without limits`
+/// builds the oracle with false here, and without the tests within the Rust.
+pub const ADDED: bool = true;
+
 pub const MAX_POINTS: usize = 4_096;
 pub const MAX_QUADS: usize = 4_096;
 pub const MAX_FRONTS: usize = 16;

@@ -5,7 +5,7 @@
 //! spaces. A number is a decimal, or x and the 16 hexadecimal digits of its bits.
 //!
 //!     job | sample | row FRONT | close | fan      the answer is pave's text, then `end`
-//!     area | contains X Y | distance X Y          of the job's domain; one line
+//!     area | contains X Y | distance X Y | new    of the job's domain; one line
 //!     call NAME NUMBER..                          one line, no `end` awaited
 //!
 //!     size H
@@ -16,6 +16,8 @@
 //!     p X Y
 //!     q A B C D
 //!     f A B ..
+//!
+//! After `refused`, a row, the closings and the fan say with `left` which counts the state then has.
 
 use crate::calls::{self, default_options, Buffers, Counts, Job};
 use crate::functions as f;
@@ -142,6 +144,7 @@ impl Body {
             ("row", 2) => calls::row(job, natural(head[1])?, b, counts),
             ("close", 1) => calls::close(job, b, counts),
             ("fan", 1) => calls::fan(job, b, counts),
+            ("new", 1) => return Ok(f::domain_new(job) + "\n"),
             ("area", 1) => return Ok(bits(f::domain_area(job)) + "\n"),
             ("contains", 3) => {
                 let p = [number(head[1])?, number(head[2])?];
@@ -153,7 +156,11 @@ impl Body {
             }
             _ => return Err(format!("not a request: {}", head.join(" "))),
         };
-        Ok(text::answer(n, &c, b) + "end\n")
+        let mut out = text::answer(n, &c, b);
+        if n != 0 && matches!(head[0], "row" | "close" | "fan") {
+            out += &text::counts("left", &c);
+        }
+        Ok(out + "end\n")
     }
 }
 
@@ -195,6 +202,7 @@ fn call(fields: &[&str]) -> Result<String, String> {
             f::point_in_polygon([x[0], x[1]], &pairs(2)).to_string()
         }
         ("corner_values", 8) => f::corner_values(four()).map(bits).join("\t"),
+        ("least_corner", 8) => bits(f::least_corner(four())),
         ("quad_ok", 8) => f::quad_ok(four()).to_string(),
         ("signed_quad_area", 8) => bits(f::signed_quad_area(four())),
         _ => return Err(format!("not a function with {} numbers: {name}", x.len())),

@@ -4,16 +4,21 @@ use crate::calls::{default_options, Buffers, Counts, Job};
 
 const MOST_BYTES: usize = 65_536;
 
+/// A word and the eight counts.
+pub fn counts(word: &str, counts: &Counts) -> String {
+    let mut out = word.to_string();
+    for n in counts.list() {
+        out += &format!("\t{n}");
+    }
+    out + "\n"
+}
+
 /// `refused` and the number, or `done` with the counts, points, quads and fronts.
 pub fn answer(number: u8, counts: &Counts, buffers: &Buffers) -> String {
     if number != 0 {
         return format!("refused\t{number}\n");
     }
-    let mut out = String::from("done");
-    for n in counts.list() {
-        out += &format!("\t{n}");
-    }
-    out.push('\n');
+    let mut out = self::counts("done", counts);
     for i in 0..counts.points {
         let p = buffers.point(i);
         out += &format!("p\t{:016X}\t{:016X}\n", p[0].to_bits(), p[1].to_bits());
