@@ -45,6 +45,16 @@ fn show_points(points: &[f64], n: usize) {
     }
 }
 
+// The nodes of a quad or a front.
+fn show_nodes(nodes: &[u16]) {
+    let mut i = 0usize;
+    while i < nodes.len() {
+        node(nodes[i]);
+        i += 1;
+    }
+    end();
+}
+
 // The first `n` quads.
 fn show_quads(quads: &[u16], n: usize) {
     let mut i = 0usize;
@@ -52,25 +62,12 @@ fn show_quads(quads: &[u16], n: usize) {
         if quads.len() / 4 <= i {
             return;
         }
+        let start = i * 4;
+        let stop = start + 4;
         io::write_all(1, b"q");
-        node(quads[i * 4]);
-        node(quads[i * 4 + 1]);
-        node(quads[i * 4 + 2]);
-        node(quads[i * 4 + 3]);
-        end();
+        show_nodes(&quads[start..stop]);
         i += 1;
     }
-}
-
-// The front of these nodes.
-fn show_front(nodes: &[u16]) {
-    io::write_all(1, b"f");
-    let mut i = 0usize;
-    while i < nodes.len() {
-        node(nodes[i]);
-        i += 1;
-    }
-    end();
 }
 
 // The first `n` fronts.
@@ -86,7 +83,8 @@ fn show_fronts(front_nodes: &[u16], front_lengths: &[u16], n: usize) {
             return;
         }
         let stop = start + len;
-        show_front(&front_nodes[start..stop]);
+        io::write_all(1, b"f");
+        show_nodes(&front_nodes[start..stop]);
         start = stop;
         i += 1;
     }
@@ -202,7 +200,8 @@ fn run(name: &[u8], h: f64, coords: &[f64], loops: &[u16], order: &[u64]) {
     }
 }
 
-fn main() {
+// Sampled alone.
+fn sampled() {
     let square = [0.0, 0.0, 3000.0, 0.0, 3000.0, 3000.0, 0.0, 3000.0];
     run(b"square 3000\n", 1000.0, &square, &[4], &[]);
     run(b"square 3000, h 0.0005\n", 0.0005, &square, &[4], &[]);
@@ -227,6 +226,10 @@ fn main() {
         11000.0,
     ];
     run(b"square with a hole\n", 1000.0, &holed, &[4, 4], &[]);
+}
+
+// Row after row on the only front.
+fn one_front() {
     let rows = [0u64; 64];
     let plain = [0.0, 0.0, 10000.0, 0.0, 10000.0, 10000.0, 0.0, 10000.0];
     run(b"square 10000, rows\n", 1000.0, &plain, &[4], &rows);
@@ -258,4 +261,115 @@ fn main() {
         6000.0,
     ];
     run(b"five corners, h 700, rows\n", 700.0, &five, &[5], &rows);
+}
+
+// Rows on an outline and its holes, in the order of their passes: plates/README.md says what each shows.
+fn more_fronts() {
+    let gap = [
+        0.0,
+        0.0,
+        5400.0,
+        0.0,
+        5400.0,
+        5400.0,
+        0.0,
+        5400.0,
+        2200.0,
+        2200.0,
+        3200.0,
+        2200.0,
+        3200.0,
+        3200.0,
+        2200.0,
+        3200.0,
+    ];
+    run(b"gap met, row\n", 1000.0, &gap, &[4, 4], &[0]);
+    let different = [
+        0.0,
+        0.0,
+        17000.0,
+        0.0,
+        17000.0,
+        11000.0,
+        0.0,
+        11000.0,
+        4500.0,
+        5500.0,
+        4900.0,
+        4600.0,
+        6100.0,
+        4600.0,
+        6500.0,
+        5500.0,
+        6100.0,
+        6400.0,
+        4900.0,
+        6400.0,
+        11250.0,
+        4750.0,
+        12000.0,
+        4750.0,
+        12750.0,
+        4750.0,
+        12750.0,
+        6250.0,
+        12000.0,
+        6250.0,
+        11250.0,
+        6250.0,
+    ];
+    run(
+        b"different lengths, rows\n",
+        1000.0,
+        &different,
+        &[4, 6, 6],
+        &[2, 1, 0, 1, 2, 0],
+    );
+    let equal = [
+        0.0,
+        0.0,
+        16000.0,
+        0.0,
+        16000.0,
+        9000.0,
+        0.0,
+        9000.0,
+        3500.0,
+        4500.0,
+        4000.0,
+        3600.0,
+        5000.0,
+        3600.0,
+        5500.0,
+        4500.0,
+        5000.0,
+        5400.0,
+        4000.0,
+        5400.0,
+        10500.0,
+        4500.0,
+        11000.0,
+        3600.0,
+        12000.0,
+        3600.0,
+        12500.0,
+        4500.0,
+        12000.0,
+        5400.0,
+        11000.0,
+        5400.0,
+    ];
+    run(
+        b"equal lengths, rows\n",
+        1000.0,
+        &equal,
+        &[4, 6, 6],
+        &[1, 2, 0],
+    );
+}
+
+fn main() {
+    sampled();
+    one_front();
+    more_fronts();
 }
