@@ -6,16 +6,16 @@ use Rattle.plates.proofs.lay_rows.Statement.{statement}
 use Rattle.plates.proofs.lay_rows.Tie as tie
 use Rattle.plates.proofs.lay_rows.Reads as reads
 use Rattle.plates.proofs.lay_rows.Lts as lts
-use Rattle.plates.proofs.defaults.Reads as defaults-reads
-use Rattle.rows.proofs.row.Reads as row-reads
+use Rattle.input.proofs.defaults.Reads as defaults-reads
+use Rattle.row.proofs.row.Reads as row-reads
 
 abbrev Inv-loop : tie.InvT-loop
-Inv-loop coords loops h most points₀ quads₀ front-nodes₀ front-lengths₀ counts₀ counter₀ points quads front-nodes front-lengths counts counter =
-    (counter ≤ most) × (length points ≡ length points₀) × (length quads ≡ length quads₀) × (length front-nodes ≡ length front-nodes₀) × (length front-lengths ≡ length front-lengths₀) × (length counts ≡ length counts₀)
+Inv-loop coords loops h order points₀ quads₀ front-nodes₀ front-lengths₀ counts₀ k₀ k-end points quads front-nodes front-lengths counts k =
+    (k ≤ length order) × (k-end ≡ length order) × (length points ≡ length points₀) × (length quads ≡ length quads₀) × (length front-nodes ≡ length front-nodes₀) × (length front-lengths ≡ length front-lengths₀)
 
 abbrev μ-loop : tie.MeasureT-loop
-μ-loop coords loops h most points₀ quads₀ front-nodes₀ front-lengths₀ counts₀ counter₀ points quads front-nodes front-lengths counts counter =
-    most - counter
+μ-loop coords loops h order points₀ quads₀ front-nodes₀ front-lengths₀ counts₀ k₀ k-end points quads front-nodes front-lengths counts k =
+    length order - k
 
 loop-holds : tie.Need-loop-holds Inv-loop μ-loop
 loop-holds c = search needs
@@ -23,8 +23,29 @@ loop-holds c = search needs
 defaults-requires : tie.Need-defaults-requires Inv-loop μ-loop
 defaults-requires c κs = search needs
 
+mul-row : tie.Need-mul-row Inv-loop μ-loop
+mul-row c = search needs
+
+shared-slice-read-row : tie.Need-shared-slice-read-row Inv-loop μ-loop
+shared-slice-read-row c = search needs
+
 row-requires : tie.Need-row-requires Inv-loop μ-loop
 row-requires c κs = search needs
+
+enum-known-answer : tie.Need-enum-known-answer Inv-loop μ-loop
+enum-known-answer c = search needs
+
+enum-told : tie.Need-enum-told Inv-loop μ-loop
+enum-told c = search needs
+
+add-k : tie.Need-add-k Inv-loop μ-loop
+add-k c = search needs
+
+loop-less : tie.Need-loop-less Inv-loop μ-loop
+loop-less c = search needs
+
+loop-again : tie.Need-loop-again Inv-loop μ-loop
+loop-again c = search needs
 
 same-length : tie.Need-same-length Inv-loop μ-loop
 same-length c = search needs
@@ -38,38 +59,8 @@ same-length-3 c = search needs
 same-length-4 : tie.Need-same-length-4 Inv-loop μ-loop
 same-length-4 c = search needs
 
-same-length-5 : tie.Need-same-length-5 Inv-loop μ-loop
-same-length-5 c = search needs
-
 returns : tie.Need-returns Inv-loop μ-loop
 returns c = search needs
-
-add-counter : tie.Need-add-counter Inv-loop μ-loop
-add-counter c = search needs
-
-loop-less : tie.Need-loop-less Inv-loop μ-loop
-loop-less c = search needs
-
-loop-again : tie.Need-loop-again Inv-loop μ-loop
-loop-again c = search needs
-
-same-length-6 : tie.Need-same-length-6 Inv-loop μ-loop
-same-length-6 c = search needs
-
-same-length-7 : tie.Need-same-length-7 Inv-loop μ-loop
-same-length-7 c = search needs
-
-same-length-8 : tie.Need-same-length-8 Inv-loop μ-loop
-same-length-8 c = search needs
-
-same-length-9 : tie.Need-same-length-9 Inv-loop μ-loop
-same-length-9 c = search needs
-
-same-length-10 : tie.Need-same-length-10 Inv-loop μ-loop
-same-length-10 c = search needs
-
-returns-2 : tie.Need-returns-2 Inv-loop μ-loop
-returns-2 c = search needs
 
 pub lay-rows-spec : {M : Type 1} → statement M
 lay-rows-spec =
@@ -79,19 +70,16 @@ lay-rows-spec =
     μ-loop
     loop-holds
     defaults-requires
+    mul-row
+    shared-slice-read-row
     row-requires
+    enum-known-answer
+    enum-told
+    add-k
+    loop-less
+    loop-again
     same-length
     same-length-2
     same-length-3
     same-length-4
-    same-length-5
-    returns
-    add-counter
-    loop-less
-    loop-again
-    same-length-6
-    same-length-7
-    same-length-8
-    same-length-9
-    same-length-10
-    returns-2)
+    returns)

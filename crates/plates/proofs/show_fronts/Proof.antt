@@ -1,5 +1,4 @@
 use Prim.Native.Nat.{_≤_, _-_}
-use native.Mathlib.Omega.{arith}
 use borrow.Author.Needs.{needs}
 use lib.ListN.{length}
 use Rattle.plates.proofs.show_fronts.Statement.{statement}
@@ -7,13 +6,14 @@ use Rattle.plates.proofs.show_fronts.Tie as tie
 use Rattle.plates.proofs.show_fronts.Reads as reads
 use Rattle.plates.proofs.show_fronts.Lts as lts
 use Rattle.geometry.proofs.wide.Reads as wide-reads
-use Rattle.plates.proofs.show_front.Reads as show-front-reads
+use Rattle.io.proofs.write_all.Reads as write-all-reads
+use Rattle.plates.proofs.show_nodes.Reads as show-nodes-reads
 
 abbrev Inv-loop : tie.InvT-loop
-Inv-loop front-nodes front-lengths n start₀ i₀ start i = (i ≤ n) × (start ≤ length front-nodes)
+Inv-loop front-nodes front-lengths n start₀ i₀ t8 start i = (i ≤ n) × (start ≤ length front-nodes)
 
 abbrev μ-loop : tie.MeasureT-loop
-μ-loop front-nodes front-lengths n start₀ i₀ start i = n - i
+μ-loop front-nodes front-lengths n start₀ i₀ t8 start i = n - i
 
 loop-holds : tie.Need-loop-holds Inv-loop μ-loop
 loop-holds c = search needs
@@ -39,20 +39,26 @@ returns-2 c = search needs
 add-stop : tie.Need-add-stop Inv-loop μ-loop
 add-stop c = search needs
 
-mul-show-front : tie.Need-mul-show-front Inv-loop μ-loop
-mul-show-front c = search needs
+slice-aggregate-write-all : tie.Need-slice-aggregate-write-all Inv-loop μ-loop
+slice-aggregate-write-all c = search needs
 
-sub-show-front : tie.Need-sub-show-front Inv-loop μ-loop
-sub-show-front c = search needs
+write-all-requires : tie.Need-write-all-requires Inv-loop μ-loop
+write-all-requires c κs = search needs
 
-part-show-front-start : tie.Need-part-show-front-start Inv-loop μ-loop
-part-show-front-start c = search needs
+mul-show-nodes : tie.Need-mul-show-nodes Inv-loop μ-loop
+mul-show-nodes c = search needs
 
-part-show-front-end : tie.Need-part-show-front-end Inv-loop μ-loop
-part-show-front-end c = search needs
+sub-show-nodes : tie.Need-sub-show-nodes Inv-loop μ-loop
+sub-show-nodes c = search needs
 
-show-front-requires : tie.Need-show-front-requires Inv-loop μ-loop
-show-front-requires c κs = search needs
+part-show-nodes-start : tie.Need-part-show-nodes-start Inv-loop μ-loop
+part-show-nodes-start c = search needs
+
+part-show-nodes-end : tie.Need-part-show-nodes-end Inv-loop μ-loop
+part-show-nodes-end c = search needs
+
+show-nodes-requires : tie.Need-show-nodes-requires Inv-loop μ-loop
+show-nodes-requires c κs = search needs
 
 add-i : tie.Need-add-i Inv-loop μ-loop
 add-i c = search needs
@@ -80,11 +86,13 @@ show-fronts-spec =
     sub-if2
     returns-2
     add-stop
-    mul-show-front
-    sub-show-front
-    part-show-front-start
-    part-show-front-end
-    show-front-requires
+    slice-aggregate-write-all
+    write-all-requires
+    mul-show-nodes
+    sub-show-nodes
+    part-show-nodes-start
+    part-show-nodes-end
+    show-nodes-requires
     add-i
     loop-less
     loop-again

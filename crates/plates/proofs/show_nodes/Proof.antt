@@ -2,11 +2,10 @@ use Prim.Native.Nat.{_≤_, _-_}
 use native.Mathlib.Omega.{arith}
 use borrow.Author.Needs.{needs}
 use lib.ListN.{length}
-use Rattle.plates.proofs.show_front.Statement.{statement}
-use Rattle.plates.proofs.show_front.Tie as tie
-use Rattle.plates.proofs.show_front.Reads as reads
-use Rattle.plates.proofs.show_front.Lts as lts
-use Rattle.io.proofs.write_all.Reads as write-all-reads
+use Rattle.plates.proofs.show_nodes.Statement.{statement}
+use Rattle.plates.proofs.show_nodes.Tie as tie
+use Rattle.plates.proofs.show_nodes.Reads as reads
+use Rattle.plates.proofs.show_nodes.Lts as lts
 use Rattle.plates.proofs.end.Reads as end-reads
 use Rattle.plates.proofs.node.Reads as node-reads
 
@@ -15,12 +14,6 @@ Inv-loop nodes i₀ i = i ≤ length nodes
 
 abbrev μ-loop : tie.MeasureT-loop
 μ-loop nodes i₀ i = length nodes - i
-
-slice-aggregate-write-all : tie.Need-slice-aggregate-write-all Inv-loop μ-loop
-slice-aggregate-write-all c = search needs
-
-write-all-requires : tie.Need-write-all-requires Inv-loop μ-loop
-write-all-requires c κs = search needs
 
 loop-holds : tie.Need-loop-holds Inv-loop μ-loop
 loop-holds c = search needs
@@ -49,14 +42,12 @@ end-requires c κs = search needs
 returns : tie.Need-returns Inv-loop μ-loop
 returns c = search needs
 
-pub show-front-spec : {M : Type 1} → statement M
-show-front-spec =
+pub show-nodes-spec : {M : Type 1} → statement M
+show-nodes-spec =
     tie.close
     (tie.spec
     Inv-loop
     μ-loop
-    slice-aggregate-write-all
-    write-all-requires
     loop-holds
     mul-node
     shared-slice-read-node
