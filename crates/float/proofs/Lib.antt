@@ -13,4 +13,5 @@ pub mod Squares
 pub mod Theorems
 pub mod Order
 pub mod Least
+pub mod Within
 pub mod Bounds
