@@ -14,4 +14,5 @@ pub mod Theorems
 pub mod Order
 pub mod Least
 pub mod Within
+pub mod Lengths
 pub mod Bounds

@@ -77,7 +77,7 @@ neg-within (fin s m e) n h = h
 
 -- ---- rounding
 -- a value that is not negative and at most an f64
-at-most : (a b : ℕ) → T (ltb a b || (eqb a b && true)) → a ≤ b
+pub at-most : (a b : ℕ) → T (ltb a b || (eqb a b && true)) → a ≤ b
 at-most a b t = elim (or-split (ltb a b) (eqb a b && true) t) [ inl u ↦ le-of-lt (ltb→lt a b u) | inr u ↦ le-of-eq (eqb→eq a b (and-l (eqb a b) true u)) ]
 
 pub le-under : (x y : Float) (n d : ℕ) → T (clear x) → HasValue y false n d → T (le x y) → Under n d x
@@ -109,14 +109,14 @@ pub round-under : (s : Bool) (a c n d : ℕ) → 0 < c → 0 < d → Exact n d �
 round-under s a c n d C D x h = signed n d s a c (le-under (round binary64 false a c) (round binary64 false n d) n d (clear-round binary64 a c) x (round-mono binary64 a c n d C D h))
 
 -- ---- sums
-module _ (n : ℕ) (few : n ≤ 2 ^ 53) where
+module _ (n : ℕ) (exact : Exact n 1) where
   -- of a sum of two fractions over c, whatever the signs
-  sum-within : (s t : Bool) (a b c : ℕ) → 0 < c → a + b ≤ n * c → Within n (sum binary64 s a t b c)
+  sum-exact : (s t : Bool) (a b c : ℕ) → 0 < c → a + b ≤ n * c → Within n (sum binary64 s a t b c)
   unfolding sum
-  sum-within s t a b c C h = go (Bool·beq s t) (ltb a b) (s && ltb b a)
+  sum-exact s t a b c C h = go (Bool·beq s t) (ltb a b) (s && ltb b a)
     where
       small : (u : Bool) (v : ℕ) → v ≤ a + b → Within n (round binary64 u v c)
-      small u v l = round-under u v c n 1 C (lit< tt) (whole-exact n few) (le-trans (le-of-eq (mul-one v)) (le-trans l h))
+      small u v l = round-under u v c n 1 C (lit< tt) exact (le-trans (le-of-eq (mul-one v)) (le-trans l h))
 
       left : (a b : ℕ) → a - b ≤ a + b
       left a b = omega arith
@@ -129,22 +129,25 @@ module _ (n : ℕ) (few : n ≤ 2 ^ 53) where
       go false true u = small t (b - a) (right a b)
       go false false u = small u (a - b) (left a b)
 
-  pub add-within : (x y : Float) (a b : ℕ) → a + b ≤ n → Within a x → Within b y → Within n (add binary64 x y)
+  pub add-exact : (x y : Float) (a b : ℕ) → a + b ≤ n → Within a x → Within b y → Within n (add binary64 x y)
   unfolding add
-  add-within nan y a b l h k = h
-  add-within (inf s) y a b l h k = absurd h
-  add-within (fin s m e) nan a b l h k = k
-  add-within (fin s m e) (inf t) a b l h k = k
-  add-within (fin s m e) (fin t i d) a b l h k =
-      sum-within s t (m * up e * down d) (i * up d * down e) (down e * down d) (mul-pos (down-pos e) (down-pos d))
+  add-exact nan y a b l h k = h
+  add-exact (inf s) y a b l h k = absurd h
+  add-exact (fin s m e) nan a b l h k = k
+  add-exact (fin s m e) (inf t) a b l h k = k
+  add-exact (fin s m e) (fin t i d) a b l h k =
+      sum-exact s t (m * up e * down d) (i * up d * down e) (down e * down d) (mul-pos (down-pos e) (down-pos d))
       (go (m * up e) (down e) (i * up d) (down d) (mul-le-mul-right (down d) h) (mul-le-mul-right (down e) k) (mul-le-mul-right (down e * down d) l))
     where
       go : (x p y q : ℕ) → x * 1 * q ≤ a * p * q → y * 1 * p ≤ b * q * p → (a + b) * (p * q) ≤ n * (p * q) → x * q + y * p ≤ n * (p * q)
       go x p y q f g i = omega arith
 
-  pub sub-within : (x y : Float) (a b : ℕ) → a + b ≤ n → Within a x → Within b y → Within n (sub binary64 x y)
-  unfolding sub
-  sub-within x y a b l h k = add-within x (neg y) a b l h (neg-within y b k)
+pub add-within : (n : ℕ) (few : n ≤ 2 ^ 53) (x y : Float) (a b : ℕ) → a + b ≤ n → Within a x → Within b y → Within n (add binary64 x y)
+add-within n few x y a b l h k = add-exact n (whole-exact n few) x y a b l h k
+
+pub sub-within : (n : ℕ) (few : n ≤ 2 ^ 53) (x y : Float) (a b : ℕ) → a + b ≤ n → Within a x → Within b y → Within n (sub binary64 x y)
+unfolding sub
+sub-within n few x y a b l h k = add-within n few x (neg y) a b l h (neg-within y b k)
 
 -- ---- products and quotients
 -- a * b / (c * d) ≤ n / k
