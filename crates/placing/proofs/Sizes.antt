@@ -14,7 +14,7 @@ use borrow.Author.Tests.{ltb-false}
 use Rattle.float.specs.Helpers.{decimal, greater}
 use Rattle.float.proofs.Order.{clear}
 use Rattle.float.proofs.Least.{clear-round}
-use Rattle.float.proofs.Within.{Within, NotNegative, whole-exact, round-under, add-within, sub-within, mul-within, within-upto, sub-upto, greater-within, whole-within, div-whole, clear-mul}
+use Rattle.float.proofs.Within.{Within, NotNegative, within-less, whole-exact, round-under, add-within, sub-within, mul-within, within-upto, sub-upto, greater-within, whole-within, div-whole, clear-mul}
 use Rattle.float.proofs.Lengths.{tiny-long, along-within}
 use Rattle.geometry.specs.F64.{_⊕_, _⊖_, _⊗_, _⊘_}
 use Rattle.geometry.specs.declared.Point.{Point}
@@ -149,3 +149,47 @@ module _ (h cornerMargin : Float) (r : Ring) (hw : Within 1000000 h) (hc : T (cl
         let p = innerPoint h cornerMargin r i k j in
         let w = point-within k j few jk long in
         all-append 419777216 (innerPoints h cornerMargin r i k j) (p .x ∷ p .y ∷ []) (inner-all k j few (omega arith) long) (all-two 419777216 (p .x) (p .y) (w .x) (w .y))
+
+  -- ---- the nodes of the first k sides
+  record Placed (k : ℕ) : Type 0 where
+    pub nodes : ℕ
+    pub whole : nodes * 2 ≡ length (placed h cornerMargin r k)
+    pub all : All 419777216 (placed h cornerMargin r k)
+
+  side-all : (i : ℕ) → i < r .size → parts h cornerMargin r i ≤ 2048 → All 419777216 (innerPoints h cornerMargin r i (parts h cornerMargin r i) (placedOn h cornerMargin r i))
+  unfolding placedOn innerPoints le
+  side-all i l few = go (le (sideAt r i) (decimal 1 12)) refl
+    where
+      k : ℕ
+      k = parts h cornerMargin r i
+
+      go : (t : Bool) → (lt (sideAt r i) (decimal 1 12) || eq (sideAt r i) (decimal 1 12)) ≡ t → All 419777216 (innerPoints h cornerMargin r i k (cond t 0 k))
+      go true e = all-none 419777216
+      go false e = inner-all i l k k few (omega arith) (or-false (lt (sideAt r i) (decimal 1 12)) (eq (sideAt r i) (decimal 1 12)) e .0)
+
+  placed-all : planned h cornerMargin r ≤ 2048 → (k : ℕ) → k ≤ r .size → Placed k
+  unfolding placed
+  placed-all few zero l = record { nodes = 0; whole = refl; all = all-none 419777216 }
+  placed-all few (suc k) l =
+      let p = placed-all few k (omega arith) in
+      let here = ring k (omega arith) in
+      let side = side-all k (omega arith) (omega (arith, room h cornerMargin r k (p .nodes) (omega arith) (p .whole))) in
+      let more = r .at k .x ∷ r .at k .y ∷ innerPoints h cornerMargin r k (parts h cornerMargin r k) (placedOn h cornerMargin r k) in
+      record {
+        nodes = p .nodes + (placedOn h cornerMargin r k + 1);
+        whole = rw (add-one k) at (count-step h cornerMargin r k (p .nodes) (placedOn h cornerMargin r k + 1) (p .whole) refl);
+        all = all-append 419777216 (placed h cornerMargin r k) more (p .all)
+            (all-more 419777216 (r .at k .x) (r .at k .y) _ (within-less (r .at k .x) (lit≤ tt) (here .x)) (within-less (r .at k .y) (lit≤ tt) (here .y)) side);
+      }
+
+-- ---- one loop
+pub loop-all : (h cornerMargin : Float) → Within 1000000 h → T (clear h) → Within 100 cornerMargin → NotNegative cornerMargin
+    → (before : ℕ) (ccw : Bool) (given : Ring) (out : List Float) → RingWithin 1000000 given → sampleLoop h cornerMargin before ccw given ≡ gives out → All 419777216 out
+unfolding sampleLoop
+loop-all h cornerMargin hw hc cw cn before ccw given out g e =
+    let r = loopRing ccw given in
+    let got = placed h cornerMargin r (r .size) in
+    let all = numbered-gives _ got out e in
+    let ten = first-none 9 _ _ (first-none 6 _ _ (all .0) .1) in
+    let few = ltb-false frontNodeLimit (before + planned h cornerMargin r) (ten .0) in
+    subst (All 419777216) (all .1) (placed-all h cornerMargin r hw hc cw cn (ring-within 1000000 ccw given g) (omega arith) (r .size) (omega arith) .all)
