@@ -1,15 +1,15 @@
 -- The root of a sum of two squares, as a length: each of the two is at most twice it (`part-twice`), so a quotient by it is small, and so is a number over it times a part (`along-within`).
 use mathlib.Core.Path.{_≡_, refl, sym, ap, _∙_, subst}
-use mathlib.Core.Logic.{_⊎_, inl, inr}
-use mathlib.Core.Bool.{Bool, true, false, not, _||_, cond, true≢false}
-use Prim.Native.Nat.{ℕ, zero, suc, _+_, _-_, _*_, _/_, _^_, _≤_, _<_}
-use native.Mathlib.Nat.{le-trans, le-of-eq, le-of-lt, lt-of-lt-of-le, lt-of-le-of-lt, mul-pos, mul-le-mul, mul-le-mul-right, mul-le-mul-left, mul-mul-mul-comm, mul-one, le-of-mul-le-mul-right, le-div-iff-mul-le, div-lt-iff-lt-mul, eq-of-mul-eq-mul-right, pow-suc, zero-lt-suc}
+use mathlib.Core.Logic.{inl, inr}
+use mathlib.Core.Bool.{Bool, true, false, not, cond, true≢false}
+use Prim.Native.Nat.{ℕ, zero, suc, _+_, _*_, _/_, _^_, _≤_, _<_}
+use native.Mathlib.Nat.{le-trans, le-of-eq, le-of-lt, lt-of-le-of-lt, mul-pos, mul-le-mul, mul-le-mul-right, mul-le-mul-left, mul-mul-mul-comm, mul-one, le-of-mul-le-mul-right, le-div-iff-mul-le, div-lt-iff-lt-mul, eq-of-mul-eq-mul-right, pow-suc}
 use native.Mathlib.Omega.{arith}
-use lib.IntN.{ℤ, pos}
-use lib.Dec.{T, ltb, eqb, ltb→lt, eqb→eq, lit<, lit≤, eqb·suc-zero}
-use lib.Pow.{pow-add, pow-pos, pow-lt, pow-mono}
+use lib.IntN.{pos}
+use lib.Dec.{T, eqb, ltb→lt, lit<, lit≤, eqb·suc-zero}
+use lib.Pow.{pow-add, pow-pos}
 use lib.Ieee.{Float, nan, inf, fin, binary64, up, down, size, round, sum, add, mul, div, lt, le, fits, isNan}
-use lib.Ieee.Digits.{size-lt, size-reaches, size-le}
+use lib.Ieee.Digits.{size-lt, size-reaches}
 use lib.Ieee.Fits.{up-pos, down-pos, round-fits, add-fits}
 use lib.Ieee.Exact.{HasValue}
 use lib.Ieee.Order.{round-mono, le-of-values}
@@ -17,13 +17,13 @@ use lib.Ieee.Positive.{num, den, positive, den-pos, own-value, value→cross, po
 use borrow.Author.Tests.{ltb-false}
 use Rattle.float.specs.Helpers.{decimal, isFinite}
 use Rattle.float.specs.Root.{root}
-use Rattle.float.proofs.Signs.{clash, yes}
+use Rattle.float.proofs.Signs.{clash}
 use Rattle.float.proofs.Held.{pow-lt-back}
 use Rattle.float.proofs.Patterns.{here-or-on, is-number}
 use Rattle.float.proofs.Theorems.{root-nearest, root-exact}
 use Rattle.float.proofs.Order.{clear, zero-le, suc-positive, root-clear, root-monotone}
 use Rattle.float.proofs.Least.{clear-round, clear-square, clear-sum}
-use Rattle.float.proofs.Within.{Under, Within, Exact, whole-exact, power-exact, under-own, under-less, within-less, within-finite, at-most, le-under, round-under, add-exact, add-within, mul-under, mul-within, Times, div-within}
+use Rattle.float.proofs.Within.{Under, Within, Exact, whole-exact, power-exact, under-own, under-less, within-less, within-finite, at-most, le-under, round-under, add-exact, add-within, mul-under, mul-within, Times}
 
 -- ---- the binary digits before a fraction a / c from 1 up
 record Digits (a c : ℕ) : Type 0 where

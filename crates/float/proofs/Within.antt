@@ -3,20 +3,20 @@ use mathlib.Core.Path.{_≡_, refl, sym, ap, _∙_, subst}
 use mathlib.Core.Logic.{_⊎_, inl, inr}
 use mathlib.Core.Bool.{Bool, true, false, not, _&&_, _||_, cond, true≢false, Bool·beq}
 use Prim.Native.Nat.{ℕ, zero, suc, _+_, _-_, _*_, _^_, _≤_, _<_}
-use native.Mathlib.Nat.{le-trans, le-of-eq, le-of-lt, mul-pos, mul-le-mul, mul-le-mul-right, mul-mul-mul-comm, mul-one}
+use native.Mathlib.Nat.{le-trans, le-of-eq, le-of-lt, lt-irrefl, mul-pos, mul-le-mul, mul-le-mul-right, mul-mul-mul-comm, mul-one}
 use native.Mathlib.Omega.{arith}
 use lib.IntN.{ℤ, pos}
 use lib.Dec.{T, ltb, eqb, ltb→lt, eqb→eq, lit<}
 use lib.Pow.{pow-add, pow-pos, pow-lt}
-use lib.Ieee.{Float, nan, inf, fin, binary64, up, down, unlike, odd, units, round, sum, add, sub, mul, div, neg, ofInt, below, level, isNan, lt, eq, le}
-use lib.Ieee.Fits.{and-l, up-pos, down-pos, round-is}
+use lib.Ieee.{Float, nan, inf, fin, binary64, up, down, unlike, odd, units, round, sum, add, sub, mul, div, neg, ofInt, isNan, lt, eq, le}
+use lib.Ieee.Fits.{and-l, down-pos, round-is}
 use lib.Ieee.Exact.{HasValue, round-exact}
 use lib.Ieee.Order.{round-mono}
 use lib.Ieee.Back.{round-whole}
-use lib.Ieee.Positive.{num, den, den-pos, value→cross, through, first-pos}
-use borrow.Author.Tests.{ltb-false, eqb-true, le-ltb, not-true}
+use lib.Ieee.Positive.{num, den, positive, den-pos, value→cross, through, above, above-of-le, first-pos}
+use borrow.Author.Tests.{ltb-false, eqb-true, le-ltb}
 use Rattle.float.specs.Helpers.{decimal, absolute, lesser, greater, isFinite}
-use Rattle.float.proofs.Signs.{clash, yes}
+use Rattle.float.proofs.Signs.{clash}
 use Rattle.float.proofs.Order.{clear, or-split}
 use Rattle.float.proofs.Least.{clear-round}
 
@@ -178,14 +178,8 @@ pub div-within : (x y : Float) (k : ℕ) → k ≤ 2 ^ 53 → Times k x y → Wi
 unfolding div isFinite
 div-within nan y k few t = clash (t .finite) refl
 div-within (inf s) y k few t = clash (t .finite) refl
-div-within (fin s m e) nan k few t = absurd (none (t .some))
-  where
-    none : 0 < 0 → ⊥
-    none h = omega arith
-div-within (fin s m e) (inf u) k few t = absurd (none (t .some))
-  where
-    none : 0 < 0 → ⊥
-    none h = omega arith
+div-within (fin s m e) nan k few t = absurd (lt-irrefl 0 (t .some))
+div-within (fin s m e) (inf u) k few t = absurd (lt-irrefl 0 (t .some))
 div-within (fin s m e) (fin u n d) k few t = go (eqb n 0) refl
   where
     go : (b : Bool) → eqb n 0 ≡ b → Within k (cond b (cond (eqb m 0) nan (inf (unlike s u))) (round binary64 (unlike s u) (m * up e * down d) (n * up d * down e)))
@@ -275,6 +269,10 @@ lesser-within n (fin false m e) (fin t k g) c h = go t (lt (fin t k g) (fin fals
         none zero p y q Q h = omega arith
         none (suc x) p y q Q h = omega (arith, mul-le-mul-right x Q)
 
+clear-either : (b : Bool) → T (clear (cond b nan (inf false)))
+clear-either true = tt
+clear-either false = tt
+
 pub clear-mul : (x y : Float) → T (clear x) → T (clear y) → T (clear (mul binary64 x y))
 unfolding mul
 clear-mul nan y c d = tt
@@ -283,19 +281,11 @@ clear-mul (inf false) nan c d = tt
 clear-mul (inf false) (inf true) c d = absurd d
 clear-mul (inf false) (inf false) c d = tt
 clear-mul (inf false) (fin true n f) c d = absurd d
-clear-mul (inf false) (fin false n f) c d = go (eqb n 0)
-  where
-    go : (b : Bool) → T (clear (cond b nan (inf false)))
-    go true = tt
-    go false = tt
+clear-mul (inf false) (fin false n f) c d = clear-either (eqb n 0)
 clear-mul (fin true m e) y c d = absurd c
 clear-mul (fin false m e) nan c d = tt
 clear-mul (fin false m e) (inf true) c d = absurd d
-clear-mul (fin false m e) (inf false) c d = go (eqb m 0)
-  where
-    go : (b : Bool) → T (clear (cond b nan (inf false)))
-    go true = tt
-    go false = tt
+clear-mul (fin false m e) (inf false) c d = clear-either (eqb m 0)
 clear-mul (fin false m e) (fin true n f) c d = absurd d
 clear-mul (fin false m e) (fin false n f) c d = clear-round binary64 (m * up e * (n * up f)) (down e * down f)
 
@@ -429,3 +419,33 @@ greater-within a n (fin s m e) h k = go s (lt (fin s m e) (decimal 0 0)) refl k
     go s true q k = low (n * 1)
     go false false q k = k
     go true false q k = none (m * up e) (down e) (ltb-false 0 (m * up e * 1 + 0 * down e) q)
+
+-- ---- what the tests of a limit say of a number
+pub tested-not-negative : (x : Float) → T (le (decimal 0 0) x) → NotNegative x
+unfolding le lt eq round
+tested-not-negative nan h = inl tt
+tested-not-negative (inf true) h = absurd h
+tested-not-negative (inf false) h = inl tt
+tested-not-negative (fin true m e) h = inr (go (m * up e) (down e) (eqb→eq (0 * down e) (m * up e * 1) (and-l (eqb (0 * down e) (m * up e * 1)) _ h)))
+  where
+    go : (x d : ℕ) → 0 * d ≡ x * 1 → x * 1 ≤ 0 * d
+    go x d e = omega arith
+tested-not-negative (fin false m e) h = inl tt
+
+-- above a positive number
+pub above-clear : (x y : Float) → T (positive y) → T (le y x) → T (clear x)
+above-clear x y p h = go x (above-of-le y x p h)
+  where
+    go : (x : Float) → T (above x) → T (clear x)
+    go nan a = absurd a
+    go (inf true) a = absurd a
+    go (inf false) a = tt
+    go (fin true m e) a = absurd a
+    go (fin false m e) a = tt
+
+pub tested-within : (n : ℕ) (x : Float) → n ≤ 2 ^ 53 → NotNegative x → T (le x (decimal n 0)) → Within n x
+tested-within n x few (inl c) h = le-under x (decimal n 0) n 1 c (whole-exact n few) h
+tested-within n x few (inr z) h = within-less x (low n) z
+  where
+    low : (n : ℕ) → 0 ≤ n
+    low n = omega arith

@@ -1,5 +1,5 @@
 -- Coordinates within a whole number: of lists, points and rings; and sides between such points.
-use mathlib.Core.Path.{_≡_, refl, sym, ap, _∙_}
+use mathlib.Core.Path.{_≡_, refl}
 use mathlib.Core.Bool.{Bool, true, false, cond}
 use mathlib.Core.List.{List, [], _∷_, _++_}
 use Prim.Native.Nat.{ℕ, zero, suc, _+_, _*_, _^_, _≤_, _<_}
@@ -8,10 +8,8 @@ use lib.Dec.{T, eqb, lit≤}
 use lib.ListN.{length, getD, drop}
 use lib.Ieee.{Float, nan, lt}
 use borrow.Author.Tests.{eqb-false}
-use Rattle.float.specs.Root.{root}
 use Rattle.float.proofs.Within.{Within, within-less, sub-within, Times}
 use Rattle.float.proofs.Lengths.{Long, long, first-twice, second-twice, length-within}
-use Rattle.geometry.specs.F64.{_⊕_, _⊗_}
 use Rattle.geometry.specs.declared.Point.{Point}
 use Rattle.geometry.specs.Rings.{Ring, pointAt, next}
 use Rattle.geometry.specs.Measures.{toward, sideLength}

@@ -1,5 +1,5 @@
 -- How far sampling can place a node: coordinates within 1,000,000, h up to 1,000,000 and a corner margin up to 100 give nodes within 419,777,216.
-use mathlib.Core.Path.{_≡_, refl, sym, ap, _∙_, subst}
+use mathlib.Core.Path.{_≡_, refl, subst}
 use mathlib.Core.Logic.{inl, inr}
 use mathlib.Core.Bool.{Bool, true, false, cond, _&&_, _||_, Bool·beq}
 use mathlib.Core.List.{List, [], _∷_, _++_}
@@ -11,7 +11,7 @@ use lib.ListN.{length}
 use lib.IntN.{pos}
 use lib.Ieee.{Float, binary64, ofInt, lt, eq, le}
 use borrow.Author.Tests.{ltb-false}
-use Rattle.float.specs.Helpers.{decimal, greater}
+use Rattle.float.specs.Helpers.{decimal}
 use Rattle.float.proofs.Order.{clear}
 use Rattle.float.proofs.Least.{clear-round}
 use Rattle.float.proofs.Within.{Within, NotNegative, within-less, whole-exact, round-under, add-within, sub-within, mul-within, within-upto, sub-upto, greater-within, whole-within, div-whole, clear-mul}
@@ -19,7 +19,7 @@ use Rattle.float.proofs.Lengths.{tiny-long, along-within}
 use Rattle.geometry.specs.F64.{_⊕_, _⊖_, _⊗_, _⊘_}
 use Rattle.geometry.specs.declared.Point.{Point}
 use Rattle.geometry.specs.Rings.{Ring, pointAt, ringOf, next}
-use Rattle.geometry.specs.Measures.{signedArea, sharpAt, toward}
+use Rattle.geometry.specs.Measures.{signedArea, sharpAt}
 use Rattle.geometry.proofs.Sizes.{All, all-none, all-two, all-more, all-append, PointWithin, RingWithin, point-at, next-in, toward-within, side-long, side-x, side-y, side-within}
 use Rattle.state.specs.Limits.{frontNodeLimit}
 use Rattle.state.specs.Outcome.{gives}
@@ -29,7 +29,7 @@ use Rattle.planning.specs.Ring.{close, kept, unclosed, reversed, turned, loopRi
 use Rattle.planning.specs.Plan.{sideAt, margin, span, planned, parts}
 use Rattle.placing.specs.Placed.{innerPoint, innerPoints, placedOn, placed}
 use Rattle.placing.specs.Loop.{sampleLoop}
-use Rattle.placing.proofs.Placing.{count-step, placed-few, room}
+use Rattle.placing.proofs.Placing.{count-step, room}
 
 -- ---- a loop's ring has only points that were given
 kept-all : (n : ℕ) (r : Ring) (k : ℕ) → k ≤ r .size → RingWithin n r → All n (kept r k)
