@@ -13,5 +13,7 @@ pub mod Squares
 pub mod Nearest
 pub mod Order
 pub mod Least
+pub mod Within
+pub mod Lengths
 pub mod Theorems
 pub mod Bounds

@@ -4,3 +4,4 @@ pub mod Steps
 pub mod Outline
 pub mod Squares
 pub mod Flip
+pub mod Sizes

@@ -1,3 +1,4 @@
 pub mod Literals
 pub mod Placing
 pub mod Numbers
+pub mod Sizes

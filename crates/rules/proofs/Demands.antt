@@ -1,9 +1,11 @@
 -- The demands hold.
 use mathlib.Core.Path.{_≡_, refl, ap, sym, _∙_, subst₂}
+use mathlib.Core.Bool.{false}
 use mathlib.Core.List.{List, _++_, map, append-assoc}
 use Prim.Native.Nat.{ℕ, _*_, _%_, _≤_}
 use native.Mathlib.Omega.{arith}
 use lib.Ieee.{Float}
+use lib.Dec.{lit≤}
 use lib.ListN.{length, take, length-append}
 use lib.Seq.{take-at}
 use Rattle.float.specs.Helpers.{decimal}
@@ -13,6 +15,8 @@ use Rattle.state.specs.Given.{wrongState}
 use Rattle.state.specs.Call.{numberOf}
 use Rattle.input.specs.Job.{Job}
 use Rattle.input.specs.Limit.{cornerLimit}
+use Rattle.input.proofs.Shape.{accepted}
+use Rattle.geometry.proofs.Sizes.{all-less}
 use Rattle.state.specs.Outcome.{gives}
 use Rattle.rules.specs.Passes.{somePasses}
 use Rattle.rules.specs.Closing.{closure, closed}
@@ -23,8 +27,10 @@ use Rattle.state.proofs.Outcomes.{gives-same}
 use Rattle.state.proofs.Written.{reading-written}
 use Rattle.state.proofs.Growing.{numbers, numbers-append, length-numbers}
 use Rattle.rules.proofs.Allowed.{Stands, number-25}
-use Rattle.rules.proofs.SampleGood.{sampled-began}
+use Rattle.rules.proofs.SampleGood.{sampled-began, sampled-stands}
 use Rattle.rules.proofs.PassGood.{Advances, row-one-each, passes-prefix, passes-advance}
+use Rattle.rules.proofs.SampleSizes.{all-right, limited, sampled-all}
+use Rattle.rules.proofs.PassSizes.{passes-all}
 use Rattle.rules.proofs.Limits.{sampled-same, passes-same}
 use Rattle.rules.proofs.Answers.{Made, job-accepted, paved-made, closings-give, rows-stand, read-back, reached-holds}
 
@@ -94,6 +100,19 @@ job-laid j l e =
       oneForEach = omega (arith, ap length (adv .pointsAre), ap length (adv .quadsAre), length-append (s .points) (adv .morePoints), length-append (s .quads) (adv .moreQuads), adv .oneForEach);
     }
 
+-- its points are finite and within 1,000,000,000: sampled ones within 419,777,216, and 6,000,000 more for each of 64 passes at most
+job-taken : (j : Job) (l : Lengths) → numberOf (jobCall j l) ≡ 0 → wrongState (jobCall j l .held) ≡ false
+job-taken j l e =
+    let input = job-accepted j l e .input in
+    let d = job-laid j l e in
+    let shape = accepted j l input in
+    let lim = limited j l input in
+    let start = sampled-all j lim (d .start) (omega arith) (d .sampledIs) in
+    let rows = passes-all j lim (d .start .fronts) (j .options .«max_row_rounds») 419777216 (d .start) (d .rows) (omega arith) (d .passesAre) (sampled-stands j (d .start) (d .sampledIs) (shape .few)) start in
+    reached-taken (byJob j l e)
+    ∙ ap (wrongCoordinate (decimal 1000000000 0)) (d .points)
+    ∙ all-right 1000000000 (lit≤ tt) (d .rows .points) (all-less (d .rows .points) (omega arith) rows)
+
 -- ---- two pass limits
 
 -- the first quads of a list, written
@@ -146,6 +165,7 @@ demand-3 = record {
   fan = λ j k l e. reached-tiled (byFan k (byJob j l e));
   anyUse = reached-tiled;
   takenBack = reached-taken;
+  acceptedBack = job-taken;
   row = row-one-each;
   laid = job-laid;
 }

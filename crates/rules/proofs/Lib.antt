@@ -10,6 +10,9 @@ pub mod FanGood
 pub mod SampleGood
 pub mod RowStands
 pub mod PassGood
+pub mod Projected
+pub mod SampleSizes
+pub mod PassSizes
 pub mod Numbers
 pub mod Limits
 pub mod Refusals

@@ -1,7 +1,7 @@
 -- The demands, over what the calls return. Statements only; proofs/Demands.antt proves them.
 use Prim.Native.Nat.{ℕ, _+_, _*_, _≤_, _<_}
 use mathlib.Core.Path.{_≡_}
-use mathlib.Core.Bool.{true}
+use mathlib.Core.Bool.{true, false}
 use mathlib.Core.Logic.{_⊎_}
 use mathlib.Core.List.{List, [], _∷_}
 use lib.ListN.{length, getD, take}
@@ -135,6 +135,8 @@ pub record Demand3 : Type 0 where
   pub anyUse : {loops : List (List ℕ)} {b : Held} → Reached loops b → Tiled loops (reading b)
   -- what the calls left is taken back: number 25 finds nothing in it, unless a coordinate
   pub takenBack : {loops : List (List ℕ)} {b : Held} → Reached loops b → wrongState b ≡ wrongCoordinate (decimal 1000000000 0) (reading b .points)
+  -- what `job` left, given back to a row, closing or fan call, is never refused with 25
+  pub acceptedBack : (j : Job) (l : Lengths) → numberOf (jobCall j l) ≡ 0 → wrongState (jobCall j l .held) ≡ false
   -- the quads laid by rows: those of a row, and those of an accepted job
   pub row : (j : Job) (s : State) (li : ℕ) (t : State) → nextRow j s li ≡ gives t → OneForEach (length (front s li)) s t
   pub laid : (j : Job) (l : Lengths) → numberOf (jobCall j l) ≡ 0 → Laid j (jobCall j l .held)
