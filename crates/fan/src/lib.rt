@@ -1,0 +1,18 @@
+// The fan of the one front that is left: the Rust's `fan_fill`, and the fan call.
+mod grid;
+
+use geometry::Point;
+
+// The box of a front's points.
+pub struct Box {
+    pub left: f64,
+    pub low: f64,
+    pub right: f64,
+    pub high: f64,
+}
+
+// The best point of the grid so far, and its distance to the front.
+pub struct Centre {
+    pub point: Point,
+    pub clearance: f64,
+}
