@@ -1,5 +1,6 @@
 // The fan of the one front that is left: the Rust's `fan_fill`, and the fan call.
 mod grid;
+mod quads;
 
 use geometry::Point;
 
@@ -15,4 +16,11 @@ pub struct Box {
 pub struct Centre {
     pub point: Point,
     pub clearance: f64,
+}
+
+// The points of a quad's three front nodes, in turn.
+pub struct Three {
+    pub a: Point,
+    pub b: Point,
+    pub c: Point,
 }
