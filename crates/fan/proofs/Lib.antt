@@ -1,3 +1,4 @@
 pub mod Literals
 pub mod Searching
 pub mod Fanning
+pub mod Deciding

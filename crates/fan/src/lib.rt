@@ -1,6 +1,7 @@
 // The fan of the one front that is left: the Rust's `fan_fill`, and the fan call.
 mod grid;
 mod quads;
+mod trial;
 
 use geometry::Point;
 
@@ -23,4 +24,10 @@ pub struct Three {
     pub a: Point,
     pub b: Point,
     pub c: Point,
+}
+
+// A fan tried: it stands, with its centre, or it is refused with a number.
+pub enum Tried {
+    Stands(Point),
+    Refused(u32),
 }
