@@ -2,3 +2,5 @@ pub mod Literals
 pub mod Searching
 pub mod Fanning
 pub mod Deciding
+pub mod OneFront
+pub mod Writing

@@ -1,5 +1,6 @@
 // The fan of the one front that is left: the Rust's `fan_fill`, and the fan call.
 mod grid;
+mod laying;
 mod quads;
 mod trial;
 
