@@ -4,3 +4,4 @@ pub mod Fanning
 pub mod Deciding
 pub mod OneFront
 pub mod Writing
+pub mod Stepping

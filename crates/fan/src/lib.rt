@@ -2,7 +2,10 @@
 mod grid;
 mod laying;
 mod quads;
+mod step;
 mod trial;
+
+pub use step::fan_fill;
 
 use geometry::Point;
 
