@@ -5,3 +5,4 @@ pub mod Deciding
 pub mod OneFront
 pub mod Writing
 pub mod Stepping
+pub mod Fitting

@@ -30,15 +30,15 @@ use Rattle.fan.proofs.OneFront.{one-front, size-is, front-is, front-lon
 -- ---- the definition by its fronts
 
 module _ (limit : Float) (j : Job) (s : State) where
-  fan-none : s .fronts ≡ [] → fan limit j s ≡ gives s
+  pub fan-none : s .fronts ≡ [] → fan limit j s ≡ gives s
   unfolding fan
   fan-none e = rw e
 
-  fan-one : (f : List ℕ) → s .fronts ≡ f ∷ [] → fan limit j s ≡ fanned limit j s f
+  pub fan-one : (f : List ℕ) → s .fronts ≡ f ∷ [] → fan limit j s ≡ fanned limit j s f
   unfolding fan
   fan-one f e = rw e
 
-  fan-many : 1 < length (s .fronts) → fan limit j s ≡ refused 23
+  pub fan-many : 1 < length (s .fronts) → fan limit j s ≡ refused 23
   unfolding fan
   fan-many l = go (s .fronts) refl l
     where
@@ -47,7 +47,7 @@ module _ (limit : Float) (j : Job) (s : State) where
       go (f ∷ []) e l = absurd (omega arith)
       go (f ∷ g ∷ fs) e l = rw (e, ne-eqb (suc (length fs)) 0 (λ z. omega arith))
 
-  fanned-is : (f : List ℕ) → fanned limit j s f
+  pub fanned-is : (f : List ℕ) → fanned limit j s f
       ≡ outcome (fanNumber limit (rings (j .coords) (j .loops)) (s .points) f (length (s .quads))) (laidFan s f (centre (rings (j .coords) (j .loops)) (nodeRing (s .points) f) .point))
   unfolding fanned fanNumber laidFan
   fanned-is f = refl
@@ -78,7 +78,7 @@ no-test false false false true e f h = absurd (omega arith)
 no-test false false false false true f h = absurd (omega arith)
 no-test false false false false false f h = (refl, refl, refl)
 
-room-left : (limit : Float) (outline : List Ring) (pts : List Float) (f : List ℕ) (quads : ℕ) → fanNumber limit outline pts f quads ≡ 0
+pub room-left : (limit : Float) (outline : List Ring) (pts : List Float) (f : List ℕ) (quads : ℕ) → fanNumber limit outline pts f quads ≡ 0
     → (length f % 2 ≡ 0) × (length pts / 2 + 1 ≤ 4096) × (quads + length f / 2 ≤ 4096)
 unfolding fanNumber
 room-left limit outline pts f quads e =

@@ -1,10 +1,12 @@
 // The fan of the one front that is left: the Rust's `fan_fill`, and the fan call.
+mod call;
 mod grid;
 mod laying;
 mod quads;
 mod step;
 mod trial;
 
+pub use call::fan;
 pub use step::fan_fill;
 
 use geometry::Point;
