@@ -6,6 +6,7 @@ ghost use Rattle.state.specs.Call.{lengthsOf};
 ghost use Rattle.input.specs.Job.{job};
 ghost use Rattle.sampling.specs.Sample.{sampleCall};
 ghost use Rattle.rules.specs.RowCall.{rowCall};
+ghost use Rattle.rules.specs.Calls.{closeCall, fanCall};
 ghost use Rattle.exports.specs.Calls.{jobPassed, optionsOf, passed, statePassed};
 use crate::counts::clear_counts;
 use crate::counts::counts_of;
@@ -127,6 +128,110 @@ pub extern "C" fn pave_row(
         h,
         options,
         front,
+        points,
+        quads,
+        front_nodes,
+        front_lengths,
+        counts_of(counts),
+    );
+    match answer {
+        Answer::Done(after) => {
+            put_counts(counts, after);
+            0
+        }
+        Answer::Refused(number) => number,
+    }
+}
+
+// The fronts of four and six nodes of the state in the buffers closed, or nothing changed.
+#[no_mangle]
+pub extern "C" fn pave_close(
+    coords: &[f64],
+    loop_lengths: &[u16],
+    h: f64,
+    corner_margin: f64,
+    min_edge_fraction: f64,
+    front_gap: f64,
+    max_row_rounds: u64,
+    seam: bool,
+    points: &mut [f64],
+    quads: &mut [u16],
+    front_nodes: &mut [u16],
+    front_lengths: &mut [u16],
+    counts: &mut [u64],
+) -> u32
+    ensures { λ r. ⌜ passed r (now (points .exit)) (now (quads .exit)) (now («front_nodes» .exit)) (now («front_lengths» .exit)) (now (counts .exit))
+        ≡ statePassed
+        (closeCall (job (now (coords .entry)) (now («loop_lengths» .entry)) h (optionsOf «corner_margin» «min_edge_fraction» «front_gap» «max_row_rounds» seam)))
+        (now (points .entry)) (now (quads .entry)) (now («front_nodes» .entry)) (now («front_lengths» .entry)) (now (counts .entry)) ⌝ }
+{
+    if counts.len() != 8 {
+        return 1;
+    }
+    let options = options_of(
+        corner_margin,
+        min_edge_fraction,
+        front_gap,
+        max_row_rounds,
+        seam,
+    );
+    let answer = closing::close(
+        coords,
+        loop_lengths,
+        h,
+        options,
+        points,
+        quads,
+        front_nodes,
+        front_lengths,
+        counts_of(counts),
+    );
+    match answer {
+        Answer::Done(after) => {
+            put_counts(counts, after);
+            0
+        }
+        Answer::Refused(number) => number,
+    }
+}
+
+// The one front of the state in the buffers fanned, or nothing changed.
+#[no_mangle]
+pub extern "C" fn pave_fan(
+    coords: &[f64],
+    loop_lengths: &[u16],
+    h: f64,
+    corner_margin: f64,
+    min_edge_fraction: f64,
+    front_gap: f64,
+    max_row_rounds: u64,
+    seam: bool,
+    points: &mut [f64],
+    quads: &mut [u16],
+    front_nodes: &mut [u16],
+    front_lengths: &mut [u16],
+    counts: &mut [u64],
+) -> u32
+    ensures { λ r. ⌜ passed r (now (points .exit)) (now (quads .exit)) (now («front_nodes» .exit)) (now («front_lengths» .exit)) (now (counts .exit))
+        ≡ statePassed
+        (fanCall (job (now (coords .entry)) (now («loop_lengths» .entry)) h (optionsOf «corner_margin» «min_edge_fraction» «front_gap» «max_row_rounds» seam)))
+        (now (points .entry)) (now (quads .entry)) (now («front_nodes» .entry)) (now («front_lengths» .entry)) (now (counts .entry)) ⌝ }
+{
+    if counts.len() != 8 {
+        return 1;
+    }
+    let options = options_of(
+        corner_margin,
+        min_edge_fraction,
+        front_gap,
+        max_row_rounds,
+        seam,
+    );
+    let answer = fan::fan(
+        coords,
+        loop_lengths,
+        h,
+        options,
         points,
         quads,
         front_nodes,

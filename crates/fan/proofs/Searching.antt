@@ -1,0 +1,70 @@
+-- The search for the fan's centre, one point of the front and one point of the grid a turn.
+use mathlib.Core.Path.{_≡_, refl, sym, _∙_, ap}
+use mathlib.Core.Bool.{Bool, true, false, cond, _&&_}
+use Prim.Native.Nat.{ℕ, _+_}
+use native.Mathlib.Numerals.{add-one}
+use lib.Ieee.{Float, inf, lt}
+use Rattle.float.specs.Helpers.{lesser, greater}
+use Rattle.geometry.specs.declared.Point.{Point}
+use Rattle.geometry.specs.Rings.{Ring}
+use Rattle.geometry.specs.Measures.{inPolygon, ringDistance}
+use Rattle.geometry.specs.Domain.{contains}
+use Rattle.state.proofs.Basics.{and-false}
+use Rattle.rules.specs.Fan.{Box, box, Centre, gridStep, tryPoint, searchColumn, searchGrid}
+use mathlib.Core.List.{List}
+
+-- ---- the box
+
+abbrev pub boxOf : Float → Float → Float → Float → Box
+boxOf left low right high = record { left = left; low = low; right = right; high = high }
+
+pub box-none : (r : Ring) (left low right high : Float) → left ≡ inf false → low ≡ inf false → right ≡ inf true → high ≡ inf true → boxOf left low right high ≡ box r 0
+unfolding box
+box-none r left low right high e f g h = rw (e, f, g, h)
+
+pub box-more : (r : Ring) (i : ℕ) (p : Point) (left low right high l b g h : Float) → boxOf left low right high ≡ box r i → p ≡ r .at i
+    → l ≡ lesser left (p .x) → b ≡ lesser low (p .y) → g ≡ greater right (p .x) → h ≡ greater high (p .y) → boxOf l b g h ≡ box r (i + 1)
+unfolding box
+box-more r i p left low right high l b g h e hp hl hb hg hh = rw (add-one, ← e, hl, hb, hg, hh, hp)
+
+-- ---- one point tried
+
+module _ (outline : List Ring) (r : Ring) (b : Box) (p : Point) (best : Centre) (t : Bool) (ht : t ≡ contains outline p) where
+  pub outside : t ≡ false → best ≡ tryPoint outline r b p best
+  unfolding tryPoint
+  outside h = rw (← ht, h)
+
+  module _ (h : t ≡ true) (u : Bool) (hu : u ≡ inPolygon p r) where
+    pub beyond : u ≡ false → best ≡ tryPoint outline r b p best
+    unfolding tryPoint
+    beyond g = rw (← ht, h, ← hu, g)
+
+    module _ (g : u ≡ true) (d : Float) (hd : d ≡ ringDistance (inf false) p r (r .size)) where
+      pub farther : lt (best .clearance) d ≡ true → record { point = p; clearance = d } ≡ tryPoint outline r b p best
+      unfolding tryPoint
+      farther k = rw (← ht, h, ← hu, g, ← hd, k)
+
+      pub nearer : lt (best .clearance) d ≡ false → best ≡ tryPoint outline r b p best
+      unfolding tryPoint
+      nearer k = rw (← ht, h, ← hu, g, ← hd, k)
+
+-- ---- the grid
+
+module _ (outline : List Ring) (r : Ring) (b : Box) where
+  pub column-none : (i : ℕ) (best : Centre) → best ≡ searchColumn outline r b i 0 best
+  unfolding searchColumn
+  column-none i best = refl
+
+  pub column-more : (i j : ℕ) (x y : Float) (best found next : Centre) → x ≡ gridStep (b .left) (b .right) i → y ≡ gridStep (b .low) (b .high) j
+      → found ≡ searchColumn outline r b i j best → next ≡ tryPoint outline r b (record { x = x; y = y }) found → next ≡ searchColumn outline r b i (j + 1) best
+  unfolding searchColumn
+  column-more i j x y best found next hx hy hf hn = rw (add-one, ← hf, ← hx, ← hy) hn
+
+  pub grid-none : (best : Centre) → best ≡ searchGrid outline r b 0 best
+  unfolding searchGrid
+  grid-none best = refl
+
+  pub grid-more : (i : ℕ) (best found next : Centre) → found ≡ searchGrid outline r b i best → next ≡ searchColumn outline r b i 13 found
+      → next ≡ searchGrid outline r b (i + 1) best
+  unfolding searchGrid
+  grid-more i best found next hf hn = rw (add-one, ← hf) hn
