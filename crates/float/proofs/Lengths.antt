@@ -117,7 +117,7 @@ long-root (fin false zero e) (fin false n d) F c f g h =
   where
     none : (a b c : ℕ) → 0 < c → c ≤ 0 * a * b → ⊥
     none a b c p q = omega arith
-long-root (fin false (suc m) e) (fin false n d) F c f g h = go (root (fin false (suc m) e)) (root-nearest (fin false (suc m) e) F (suc-positive m e) .above-zero) h
+long-root (fin false (suc m) e) (fin false n d) F c f g h = go (root (fin false (suc m) e)) (root-nearest (fin false (suc m) e) F (suc-positive m e) .aboveZero) h
   where
     plain : (k l : ℕ) → 1 * k ≤ l → k ≤ l
     plain k l h = omega arith
