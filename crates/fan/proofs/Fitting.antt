@@ -24,8 +24,8 @@ use Rattle.state.proofs.Fitting.{Fit, sound-written, clean-written, fit-read}
 use Rattle.input.specs.Job.{Job}
 use Rattle.rules.specs.Fan.{centre, fanQuads, fan}
 use Rattle.rules.proofs.FanGood.{fan-length}
-use Rattle.fan.specs.Quads.{withCentre}
-use Rattle.fan.specs.Numbers.{fanNumber}
+use Rattle.fan_search.specs.Quads.{withCentre}
+use Rattle.fan_search.specs.Numbers.{fanNumber}
 use Rattle.fan.specs.Laid.{laidFan}
 use Rattle.fan.proofs.Stepping.{fan-none, fan-one, fan-many, fanned-is, room-left}
 

@@ -1,7 +1,4 @@
-pub mod Literals
-pub mod Searching
-pub mod Fanning
-pub mod Deciding
+pub mod Filling
 pub mod OneFront
 pub mod Writing
 pub mod Stepping

@@ -21,9 +21,9 @@ use Rattle.state.proofs.Reading.{Counted, sound-counted, fronts-read, points-lo
 use Rattle.state.proofs.Zeros.{same-sizes}
 use Rattle.input.specs.Job.{Job}
 use Rattle.rules.specs.Fan.{centre, fanned, fan}
-use Rattle.fan.specs.declared.Tried.{Tried}
-use Rattle.fan.specs.declared.Tried.the-variants.{Stands, Refused}
-use Rattle.fan.specs.Numbers.{fanNumber, tried}
+use Rattle.fan_search.specs.declared.Tried.{Tried}
+use Rattle.fan_search.specs.declared.Tried.the-variants.{Stands, Refused}
+use Rattle.fan_search.specs.Numbers.{fanNumber, tried}
 use Rattle.fan.specs.Laid.{laidFan, Room}
 use Rattle.fan.proofs.OneFront.{one-front, size-is, front-is, front-long}
 

@@ -20,7 +20,7 @@ use Rattle.state.proofs.Reading.{Counted, sound-counted, points-long, nodes-rea
 use Rattle.state.proofs.Zeros.{same-held, points-held, quads-held}
 use Rattle.rules.specs.Fan.{fanQuads}
 use Rattle.rules.proofs.FanGood.{fan-length}
-use Rattle.fan.specs.Quads.{withCentre}
+use Rattle.fan_search.specs.Quads.{withCentre}
 use Rattle.fan.specs.Laid.{laidFan, Room}
 use Rattle.fan.proofs.OneFront.{size-is, front-is, front-long}
 

@@ -8,7 +8,7 @@ use Rattle.state.specs.Limits.{pointLimit, quadLimit}
 use Rattle.state.specs.State.{State, Held, nodes}
 use Rattle.state.specs.Sound.{sizesOf}
 use Rattle.rules.specs.Fan.{fanQuads}
-use Rattle.fan.specs.Quads.{withCentre}
+use Rattle.fan_search.specs.Quads.{withCentre}
 
 -- the state that `fanned` gives, with the centre p
 unfoldable pub laidFan : State → List ℕ → Point → State

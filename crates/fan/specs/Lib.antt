@@ -1,4 +1,1 @@
-pub mod Values
-pub mod Quads
-pub mod Numbers
 pub mod Laid

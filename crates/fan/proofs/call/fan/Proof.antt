@@ -83,8 +83,7 @@ fan-fill-requires c κs =
     let at-if1 : tie.Else1 = search in
     let at-input-number : tie.After-input-number = search in
     let entry = start at-input-number in
-    let stands = at-if2 .if2 .left in
-    (
+    let stands = at-if2 .if2 .left in (
       sound (given entry) (right at-if1) (sym (at-wrong-state .wrong-state .ensures) ∙ stands),
       ((λ h. absurd (true≢false (sym h))), (core-within (given entry) _ (at-wrong-state .wrong-state .ensures) stands, outline-read (jobAt entry) (given entry) _ (number at-input-number) (at-if1 .if1 .left))),
     )

@@ -6,8 +6,8 @@ use lib.ListN.{length}
 use lib.Seq.{sets}
 use Rattle.state.specs.State.{joined, quadNodes}
 use Rattle.rules.specs.Fan.{fanQuads}
-use Rattle.fan.specs.Quads.{withCentre}
-use Rattle.fan.proofs.Fanning.{fan-none, fan-more}
+use Rattle.fan_search.specs.Quads.{withCentre}
+use Rattle.fan.proofs.Filling.{fan-none, fan-more}
 use native.Mathlib.Omega.{arith}
 use Rattle.fan.proofs.quads.put_fan.Statement.{statement}
 use Rattle.fan.proofs.quads.put_fan.Tie as tie

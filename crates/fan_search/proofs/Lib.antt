@@ -1,0 +1,4 @@
+pub mod Literals
+pub mod Searching
+pub mod Fanning
+pub mod Deciding

@@ -1,0 +1,66 @@
+-- `fan_search::grid::search_column` meets its contract. The invariant: `found` is what the first j points of the column give. The measure is the points left.
+use mathlib.Core.Path.{_≡_}
+use Prim.Native.Nat.{_≤_, _-_}
+use Rattle.geometry.specs.Rings.{nodeRing}
+use Rattle.geometry.specs.Domain.{rings}
+use Rattle.rules.specs.Fan.{searchColumn}
+use Rattle.fan_search.specs.Values.{boxed, centred}
+use Rattle.fan_search.proofs.Searching.{column-none, column-more}
+use native.Mathlib.Omega.{arith}
+use borrow.Author.Needs.{needs}
+use Rattle.fan_search.proofs.grid.search_column.Statement.{statement}
+use Rattle.fan_search.proofs.grid.search_column.Tie as tie
+
+abbrev Inv-loop : tie.InvT-loop
+Inv-loop coords loops points nodes b i x found₀ j₀ found j = (j ≤ 13) × (centred found ≡ searchColumn (rings coords loops) (nodeRing points nodes) (boxed b) i j (centred found₀))
+
+abbrev μ-loop : tie.MeasureT-loop
+μ-loop coords loops points nodes b i x found₀ j₀ found j = 13 - j
+
+grid-step-requires : tie.Need-grid-step-requires Inv-loop μ-loop
+grid-step-requires c κs = omega arith
+
+loop-holds : tie.Need-loop-holds Inv-loop μ-loop
+loop-holds c = (omega arith, column-none _ _ _ _ _)
+
+grid-step-requires-2 : tie.Need-grid-step-requires-2 Inv-loop μ-loop
+grid-step-requires-2 c κs = omega arith
+
+try-point-requires : tie.Need-try-point-requires Inv-loop μ-loop
+try-point-requires c κs =
+    let entry : tie.Start Inv-loop μ-loop = search in
+    (entry .pre .0 .1, entry .pre .1)
+
+add-j : tie.Need-add-j Inv-loop μ-loop
+add-j c = omega arith
+
+loop-less : tie.Need-loop-less Inv-loop μ-loop
+loop-less c = omega arith
+
+loop-again : tie.Need-loop-again Inv-loop μ-loop
+loop-again c =
+    let at-grid-step2 : tie.After-grid-step2 Inv-loop μ-loop = search in
+    let at-loop : tie.At-loop Inv-loop μ-loop = search in
+    let at-grid-step : tie.After-grid-step Inv-loop μ-loop = search in
+    let entry : tie.Start Inv-loop μ-loop = search in
+    (omega arith, column-more _ _ (boxed (entry .args .b)) _ _ _ _ _ _ _ (at-grid-step .grid-step .ensures) (at-grid-step2 .grid-step2 .ensures) (at-loop .loop .inv .1) (c .try-point .ensures (boxed (entry .args .b))))
+
+returns : tie.Need-returns Inv-loop μ-loop
+returns c =
+    let e : c .before .loop .j ≡ 13 = omega arith in
+    rw e at (c .before .loop .inv .1)
+
+pub search-column-spec : {M : Type 1} → statement M
+search-column-spec =
+    tie.close
+    (tie.spec
+    Inv-loop
+    μ-loop
+    grid-step-requires
+    loop-holds
+    grid-step-requires-2
+    try-point-requires
+    add-j
+    loop-less
+    loop-again
+    returns)

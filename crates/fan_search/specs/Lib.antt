@@ -1,0 +1,3 @@
+pub mod Values
+pub mod Quads
+pub mod Numbers

@@ -1,0 +1,135 @@
+// The fan's centre: the point of a 13 by 13 grid over the front's box that is farthest from the front.
+ghost use mathlib.Core.Path.{_≡_};
+ghost use Prim.Native.Nat.{ℕ, _*_, _+_, _<_, _≤_};
+ghost use lib.ListN.{getD, length};
+ghost use Rattle.geometry.specs.Rings.{nodeRing};
+ghost use Rattle.geometry.specs.Domain.{rings, sumOf};
+ghost use Rattle.rules.specs.Fan as fans;
+ghost use Rattle.fan_search.specs.Values.{boxed, centred};
+use crate::Box;
+use crate::Centre;
+use geometry::Point;
+
+// The box of the points that the nodes name.
+fn box_of(points: &[f64], nodes: &[u16]) -> Box
+    requires { ⌜ ((i : ℕ) → i < length (now nodes) → getD (now nodes) i 0 * 2 + 1 < length (now points)) ⌝ }
+    ensures { λ r. ⌜ boxed r ≡ fans.box (nodeRing (now (points .entry)) (now (nodes .entry))) (length (now (nodes .entry))) ⌝ }
+{
+    let mut left = 1.0 / 0.0;
+    let mut low = 1.0 / 0.0;
+    let mut right = -1.0 / 0.0;
+    let mut high = -1.0 / 0.0;
+    let mut i = 0usize;
+    while i < nodes.len() {
+        let p = geometry::node_point(points, nodes, i);
+        left = float::lesser(left, p.x);
+        low = float::lesser(low, p.y);
+        right = float::greater(right, p.x);
+        high = float::greater(high, p.y);
+        i += 1;
+    }
+    Box {
+        left,
+        low,
+        right,
+        high,
+    }
+}
+
+// The `k`th of 13 even steps from `a` to `b`.
+fn grid_step(a: f64, b: f64, k: usize) -> f64
+    requires { ⌜ k < 13 ⌝ }
+    ensures { λ r. ⌜ r ≡ fans.gridStep a b k ⌝ }
+{
+    a + (b - a) * ((k as u32) as f64) / 12.0
+}
+
+// `p` where it is in the domain, within the front and farther from it than `best`; otherwise `best`. The distance, which is dear,
+// comes last.
+fn try_point(
+    coords: &[f64],
+    loops: &[u16],
+    points: &[f64],
+    nodes: &[u16],
+    p: Point,
+    best: Centre,
+) -> Centre
+    requires { ⌜ sumOf (now loops) * 2 ≤ length (now coords) ⌝ }
+    requires { ⌜ ((i : ℕ) → i < length (now nodes) → getD (now nodes) i 0 * 2 + 1 < length (now points)) ⌝ }
+    ensures { λ r. ⌜ ((b : fans.Box) → centred r ≡ fans.tryPoint (rings (now (coords .entry)) (now (loops .entry))) (nodeRing (now (points .entry)) (now (nodes .entry))) b p (centred best)) ⌝ }
+{
+    if !geometry::contains(coords, loops, p) {
+        return best;
+    }
+    if !geometry::in_front(p, points, nodes) {
+        return best;
+    }
+    let clearance = geometry::front_distance(p, points, nodes);
+    if best.clearance < clearance {
+        return Centre {
+            point: p,
+            clearance,
+        };
+    }
+    best
+}
+
+// The best of `best` and the grid's column `i`, from low to high.
+fn search_column(
+    coords: &[f64],
+    loops: &[u16],
+    points: &[f64],
+    nodes: &[u16],
+    b: Box,
+    i: usize,
+    best: Centre,
+) -> Centre
+    requires { ⌜ (i < 13) × (sumOf (now loops) * 2 ≤ length (now coords)) ⌝ }
+    requires { ⌜ ((i : ℕ) → i < length (now nodes) → getD (now nodes) i 0 * 2 + 1 < length (now points)) ⌝ }
+    ensures { λ r. ⌜ centred r ≡ fans.searchColumn (rings (now (coords .entry)) (now (loops .entry))) (nodeRing (now (points .entry)) (now (nodes .entry))) (boxed b) i 13 (centred best) ⌝ }
+{
+    let x = grid_step(b.left, b.right, i);
+    let mut found = best;
+    for j in 0..13 {
+        let y = grid_step(b.low, b.high, j);
+        found = try_point(coords, loops, points, nodes, Point { x, y }, found);
+    }
+    found
+}
+
+// Where the search starts: the middle of the box, with no clearance.
+fn middle_of(b: Box) -> Centre
+    ensures { λ r. ⌜ centred r ≡ fans.start (boxed b) ⌝ }
+{
+    let point = Point {
+        x: 0.5 * (b.left + b.right),
+        y: 0.5 * (b.low + b.high),
+    };
+    Centre {
+        point,
+        clearance: -1.0 / 0.0,
+    }
+}
+
+// The best point of the grid, column by column from the left.
+fn search_grid(coords: &[f64], loops: &[u16], points: &[f64], nodes: &[u16], b: Box) -> Centre
+    requires { ⌜ sumOf (now loops) * 2 ≤ length (now coords) ⌝ }
+    requires { ⌜ ((i : ℕ) → i < length (now nodes) → getD (now nodes) i 0 * 2 + 1 < length (now points)) ⌝ }
+    ensures { λ r. ⌜ centred r ≡ fans.searchGrid (rings (now (coords .entry)) (now (loops .entry))) (nodeRing (now (points .entry)) (now (nodes .entry))) (boxed b) 13 (fans.start (boxed b)) ⌝ }
+{
+    let mut found = middle_of(b);
+    for i in 0..13 {
+        found = search_column(coords, loops, points, nodes, b, i, found);
+    }
+    found
+}
+
+// The fan's centre and its clearance.
+pub fn centre_of(coords: &[f64], loops: &[u16], points: &[f64], nodes: &[u16]) -> Centre
+    requires { ⌜ sumOf (now loops) * 2 ≤ length (now coords) ⌝ }
+    requires { ⌜ ((i : ℕ) → i < length (now nodes) → getD (now nodes) i 0 * 2 + 1 < length (now points)) ⌝ }
+    ensures { λ r. ⌜ centred r ≡ fans.centre (rings (now (coords .entry)) (now (loops .entry))) (nodeRing (now (points .entry)) (now (nodes .entry))) ⌝ }
+{
+    let b = box_of(points, nodes);
+    search_grid(coords, loops, points, nodes, b)
+}
