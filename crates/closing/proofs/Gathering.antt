@@ -14,8 +14,8 @@ use Rattle.state.specs.State.{Quad, quadNodes, joined}
 use Rattle.state.proofs.Growing.{joined-append, numbers, numbers-append, length-numbers}
 use Rattle.state.proofs.Stores.{sets-append, table-step}
 use Rattle.rules.specs.Closing.{closure, keptFronts}
-use Rattle.closing.specs.declared.Closure.{Closure}
-use Rattle.closing.specs.declared.Closure.the-variants.{Kept, One, Two}
+use Rattle.closing.specs.declared.front.Closure.{Closure}
+use Rattle.closing.specs.declared.front.Closure.the-variants.{Kept, One, Two}
 use Rattle.closing.specs.Closures.{closureQuads}
 use Rattle.closing.specs.Keeping.{closuresOf, stays, keptBy}
 

@@ -2,7 +2,7 @@
 use mathlib.Core.Path.{_≡_, refl, sym, _∙_}
 use mathlib.Core.Bool.{Bool, true, false, cond, _&&_, _||_}
 use mathlib.Core.List.{List, [], _∷_}
-use Prim.Native.Nat.{ℕ, suc, _+_, _%_, _<_}
+use Prim.Native.Nat.{ℕ, _+_, _%_, _<_}
 use native.Mathlib.Numerals.{add-one}
 use native.Mathlib.Omega.{arith}
 use lib.Dec.{eqb}
@@ -12,9 +12,9 @@ use Rattle.float.specs.Helpers.{decimal, lesser}
 use Rattle.state.specs.State as state
 use Rattle.rules.specs.Checks.{quadPasses}
 use Rattle.rules.specs.Closing.{areaOf, turnedQuad, closeFour, leastOf, firstHalf, secondHalf, bestSplit}
-use Rattle.closing.specs.declared.Quad.{Quad}
-use Rattle.closing.specs.declared.Split.{Split}
-use Rattle.closing.specs.declared.Closure.the-variants.{Two}
+use Rattle.closing.specs.declared.quads.Quad.{Quad}
+use Rattle.closing.specs.declared.front.Split.{Split}
+use Rattle.closing.specs.declared.front.Closure.the-variants.{Two}
 use Rattle.closing.specs.Closures.{quadOf, closureQuads, splitOf}
 
 -- a quad turned or not, by the sign of its area x

@@ -1,7 +1,7 @@
 -- The closings on sound buffers: the call's answer from what was found, and what they leave in the buffers is the written form of the closed state.
 use mathlib.Core.Path.{_≡_, refl, sym, _∙_, ap}
 use mathlib.Core.Bool.{Bool, false}
-use mathlib.Core.List.{List, [], _∷_, _++_, map}
+use mathlib.Core.List.{List, [], map}
 use Prim.Native.Nat.{ℕ, _+_, _*_, _<_, _≤_}
 use native.Mathlib.Omega.{arith}
 use borrow.Author.Tests.{lt-ltb, le-ltb}
@@ -11,7 +11,7 @@ use lib.Seq.{sets, length-take-le}
 use Rattle.geometry.specs.Domain.{sumOf}
 use Rattle.state.specs.declared.Counts.{Counts}
 use Rattle.state.specs.declared.Answer.the-variants as Answers
-use Rattle.state.specs.Limits.{frontLimit, frontNodeLimit, quadLimit, quadsLength}
+use Rattle.state.specs.Limits.{quadLimit, quadsLength}
 use Rattle.state.specs.State.{State, Quad, Held, cut, joined, nodes, padded, reading, written, countsOf}
 use Rattle.state.specs.Call.{held, left, stateLeft}
 use Rattle.state.specs.Sound.{Sound, sizesOf}

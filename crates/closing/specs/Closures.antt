@@ -3,10 +3,10 @@ use Prim.Native.Nat.{ℕ, _+_, _*_, _<_}
 use mathlib.Core.List.{List, [], _∷_}
 use Rattle.state.specs.State as state
 use Rattle.rules.specs.Closing as closing
-use Rattle.closing.specs.declared.Quad.{Quad}
-use Rattle.closing.specs.declared.Closure.{Closure}
-use Rattle.closing.specs.declared.Closure.the-variants.{Kept, One, Two}
-use Rattle.closing.specs.declared.Split.{Split}
+use Rattle.closing.specs.declared.quads.Quad.{Quad}
+use Rattle.closing.specs.declared.front.Closure.{Closure}
+use Rattle.closing.specs.declared.front.Closure.the-variants.{Kept, One, Two}
+use Rattle.closing.specs.declared.front.Split.{Split}
 
 abbrev pub quadOf : Quad → state.Quad
 quadOf q = state.quad (q .a) (q .b) (q .c) (q .d)

@@ -9,7 +9,7 @@ ghost use Rattle.geometry.specs.Domain.{sumOf};
 ghost use Rattle.state.specs.State.{cut, joined, quadNodes};
 ghost use Rattle.closing.specs.Closures.{closureQuads};
 ghost use Rattle.closing.specs.Keeping.{closuresOf, stays};
-use crate::Closure;
+use crate::front::Closure;
 use crate::front::close_front;
 use crate::front::count_of;
 use state::front_at;

@@ -7,11 +7,23 @@ ghost use lib.Ieee.{lt};
 ghost use lib.ListN.{getD, length};
 ghost use Rattle.rules.specs.Closing.{bestSplit, closeFour, closure};
 ghost use Rattle.closing.specs.Closures.{closureQuads, splitOf};
-use crate::Closure;
-use crate::Split;
+use crate::quads::Quad;
 use crate::quads::least_of;
 use crate::quads::passes;
 use crate::quads::quad_on;
+
+// What closes a front: nothing, and it is kept, or its quads.
+pub enum Closure {
+    Kept,
+    One(Quad),
+    Two(Quad, Quad),
+}
+
+// The best split so far of a front of six nodes, with its least corner value.
+pub struct Split {
+    pub closure: Closure,
+    pub score: f64,
+}
 
 // Four nodes: one quad, if it passes the corner test.
 fn close_four(points: &[f64], nodes: &[u16], limit: f64) -> Closure

@@ -7,10 +7,17 @@ ghost use Rattle.state.specs.State as state;
 ghost use Rattle.rules.specs.Checks.{quadPasses};
 ghost use Rattle.rules.specs.Closing.{areaOf, leastOf, turnedQuad};
 ghost use Rattle.closing.specs.Closures.{Within, quadOf};
-use crate::Quad;
 use geometry::Point;
 use geometry::point_at;
 use geometry::wide;
+
+// Four node numbers, in order round a quad.
+pub struct Quad {
+    pub a: u16,
+    pub b: u16,
+    pub c: u16,
+    pub d: u16,
+}
 
 // The points of a quad's nodes.
 struct Corners {
