@@ -4,7 +4,7 @@ use mathlib.Core.Bool.{Bool, true, false, not, cond, _||_}
 use mathlib.Core.List.{List, [], _∷_, _++_, map}
 use Prim.Native.Nat.{ℕ, _+_, _*_, _/_, _≤_}
 use native.Mathlib.Omega.{arith}
-use borrow.Author.Tests.{eqb-true, not-false, ltb-false}
+use borrow.Author.Tests.{eqb-true, not-false}
 use lib.Dec.{eqb, ltb}
 use lib.Ieee.{Float}
 use lib.ListN.{length, length-append}
@@ -12,6 +12,7 @@ use Rattle.float.specs.Helpers.{decimal}
 use Rattle.geometry.specs.declared.Point.{Point}
 use Rattle.geometry.specs.Rings.{nodeRing}
 use Rattle.geometry.specs.Domain.{rings}
+use Rattle.state.specs.Limits.{pointLimit, quadLimit}
 use Rattle.state.specs.State.{State, Held, Quad, quadNodes, joined, nodes, written, reading}
 use Rattle.state.specs.Outcome.{Outcome, refused, gives, outcome}
 use Rattle.state.specs.Call.{Left, stateLeft}
@@ -25,7 +26,6 @@ use Rattle.input.specs.Job.{Job}
 use Rattle.rules.specs.Fan.{centre, fanQuads, fan}
 use Rattle.rules.proofs.FanGood.{fan-length}
 use Rattle.fan_search.specs.Quads.{withCentre}
-use Rattle.fan_search.specs.Numbers.{fanNumber}
 use Rattle.fan.specs.Laid.{laidFan}
 use Rattle.fan.proofs.Stepping.{fan-none, fan-one, fan-many, fanned-is, room-left}
 
@@ -57,7 +57,7 @@ module _ (s : State) (f : List ℕ) (p : Point) where
   quads-after : length (s .quads ++ quads-added) ≡ length (s .quads) + length f / 2
   quads-after = length-append (s .quads) quads-added ∙ rw fan-length
 
-  fit-laid : Fit s → length (s .points) / 2 + 1 ≤ 4096 → length (s .quads) + length f / 2 ≤ 4096 → Fit (laidFan s f p)
+  fit-laid : Fit s → length (s .points) / 2 + 1 ≤ pointLimit → length (s .quads) + length f / 2 ≤ quadLimit → Fit (laidFan s f p)
   unfolding laidFan joined some
   fit-laid fit hp hq =
       let l = length-append (s .points) (p .x ∷ p .y ∷ []) in
@@ -91,7 +91,7 @@ module _ (limit : Float) (j : Job) (s : State) where
       go false d g = let z : _≡_ {A = ℕ} 0 1 = cc in absurd (zero-one z)
 
   module _ (P : State → Type 0) (same : P s)
-      (more : (f : List ℕ) (p : Point) → length (s .points) / 2 + 1 ≤ 4096 → length (s .quads) + length f / 2 ≤ 4096 → P (laidFan s f p)) where
+      (more : (f : List ℕ) (p : Point) → length (s .points) / 2 + 1 ≤ pointLimit → length (s .quads) + length f / 2 ≤ quadLimit → P (laidFan s f p)) where
     granted : (t : State) → fan limit j s ≡ gives t → P t
     granted t e = go (s .fronts) refl
       where

@@ -1,10 +1,10 @@
 -- The fan on sound buffers: the call's answer from the number of fronts and from the fan tried.
 use mathlib.Core.Path.{_≡_, refl, sym, _∙_, ap}
-use mathlib.Core.Bool.{Bool, true, false, not, cond, _||_}
+use mathlib.Core.Bool.{Bool, true, false, cond, _||_}
 use mathlib.Core.List.{List, [], _∷_}
-use Prim.Native.Nat.{ℕ, zero, suc, _+_, _*_, _/_, _%_, _<_, _≤_}
+use Prim.Native.Nat.{ℕ, suc, _+_, _*_, _/_, _%_, _<_, _≤_}
 use native.Mathlib.Omega.{arith}
-use borrow.Author.Tests.{eqb-true, eqb-false, eq-eqb, ne-eqb, ltb-false}
+use borrow.Author.Tests.{eqb-true, eqb-false, ne-eqb, ltb-false}
 use lib.Dec.{eqb, ltb}
 use lib.Ieee.{Float}
 use lib.ListN.{length, getD, take}
@@ -12,11 +12,12 @@ use Rattle.geometry.specs.declared.Point.{Point}
 use Rattle.geometry.specs.Rings.{Ring, nodeRing}
 use Rattle.geometry.specs.Domain.{rings}
 use Rattle.state.specs.declared.Answer.the-variants as Answers
+use Rattle.state.specs.Limits.{pointLimit, quadLimit}
 use Rattle.state.specs.State.{State, Held, reading, written, countsOf}
-use Rattle.state.specs.Outcome.{Outcome, refused, gives, firstOf, test, outcome}
-use Rattle.state.specs.Call.{Left, left, stateLeft}
-use Rattle.state.specs.Sound.{Sound, sizesOf}
-use Rattle.state.proofs.Basics.{or-false, zero-one}
+use Rattle.state.specs.Outcome.{refused, gives, firstOf, test, outcome}
+use Rattle.state.specs.Call.{left, stateLeft}
+use Rattle.state.specs.Sound.{Sound}
+use Rattle.state.proofs.Basics.{zero-one}
 use Rattle.state.proofs.Reading.{Counted, sound-counted, fronts-read, points-long, length-quadsOf}
 use Rattle.state.proofs.Zeros.{same-sizes}
 use Rattle.input.specs.Job.{Job}
@@ -25,7 +26,7 @@ use Rattle.fan_search.specs.declared.Tried.{Tried}
 use Rattle.fan_search.specs.declared.Tried.the-variants.{Stands, Refused}
 use Rattle.fan_search.specs.Numbers.{fanNumber, tried}
 use Rattle.fan.specs.Laid.{laidFan, Room}
-use Rattle.fan.proofs.OneFront.{one-front, size-is, front-is, front-long}
+use Rattle.fan.proofs.OneFront.{one-front, size-is, front-long}
 
 -- ---- the definition by its fronts
 
@@ -79,14 +80,12 @@ no-test false false false false true f h = absurd (omega arith)
 no-test false false false false false f h = (refl, refl, refl)
 
 pub room-left : (limit : Float) (outline : List Ring) (pts : List Float) (f : List ℕ) (quads : ℕ) → fanNumber limit outline pts f quads ≡ 0
-    → (length f % 2 ≡ 0) × (length pts / 2 + 1 ≤ 4096) × (quads + length f / 2 ≤ 4096)
+    → (length f % 2 ≡ 0) × (length pts / 2 + 1 ≤ pointLimit) × (quads + length f / 2 ≤ quadLimit)
 unfolding fanNumber
 room-left limit outline pts f quads e =
-    let t = no-test (ltb (length f) 4) (eqb (length f % 2) 1) _ (ltb 4096 (length pts / 2 + 1)) (ltb 4096 (quads + length f / 2)) _ e in
-    (even (eqb-false _ _ (t .0)), ltb-false _ _ (t .1), ltb-false _ _ (t .2))
-  where
-    even : (length f % 2 ≡ 1 → ⊥) → length f % 2 ≡ 0
-    even h = omega (arith, h)
+    let t = no-test (ltb (length f) 4) (eqb (length f % 2) 1) _ (ltb pointLimit (length pts / 2 + 1)) (ltb quadLimit (quads + length f / 2)) _ e in
+    let odd = eqb-false (length f % 2) 1 (t .0) in
+    (omega (arith, odd), ltb-false _ _ (t .1), ltb-false _ _ (t .2))
 
 -- buffers and counts that are a state, written
 done-is : (s : State) (l : Held) → l ≡ written s → left (Answers.Done (l .counts)) l ≡ record { answer = Answers.Done (countsOf s); held = written s }

@@ -1,7 +1,7 @@
 -- What a laid fan leaves in the buffers is the written form of the state with the fan.
 use mathlib.Core.Path.{_≡_, refl, sym, _∙_, ap}
 use mathlib.Core.List.{List, [], _∷_, _++_}
-use Prim.Native.Nat.{ℕ, _+_, _*_, _/_, _≤_}
+use Prim.Native.Nat.{ℕ, _+_, _*_, _/_}
 use native.Mathlib.Nat.{add-zero}
 use native.Mathlib.Omega.{arith}
 use lib.Ieee.{Float}
@@ -10,13 +10,13 @@ use lib.Seq.{sets, length-take-le}
 use Rattle.float.specs.Helpers.{decimal}
 use Rattle.geometry.specs.declared.Point.{Point}
 use Rattle.state.specs.declared.Counts.{Counts}
-use Rattle.state.specs.Limits.{frontLimit, frontNodeLimit, pointsLength, quadsLength}
+use Rattle.state.specs.Limits.{pointsLength, quadsLength}
 use Rattle.state.specs.State.{Held, State, Quad, joined, padded, nodes, written, reading}
 use Rattle.state.specs.Call.{held}
-use Rattle.state.specs.Sound.{Sound, Clean, sizesOf}
+use Rattle.state.specs.Sound.{Sound, Clean}
 use Rattle.state.proofs.Stores.{point-behind}
 use Rattle.state.proofs.Growing.{extended, numbers, numbers-append, length-numbers}
-use Rattle.state.proofs.Reading.{Counted, sound-counted, points-long, nodes-read, quads-read, quad-nodes-read}
+use Rattle.state.proofs.Reading.{Counted, sound-counted, points-long, quads-read, quad-nodes-read}
 use Rattle.state.proofs.Zeros.{same-held, points-held, quads-held}
 use Rattle.rules.specs.Fan.{fanQuads}
 use Rattle.rules.proofs.FanGood.{fan-length}

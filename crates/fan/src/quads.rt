@@ -5,6 +5,7 @@ ghost use mathlib.Core.List.{map};
 ghost use Prim.Native.Nat.{ℕ, _%_, _*_, _+_, _/_, _<_, _≤_};
 ghost use lib.ListN.{getD, length};
 ghost use lib.Seq.{sets};
+ghost use Rattle.state.specs.Limits.{pointsLength};
 ghost use Rattle.state.specs.State.{joined, quad, quadNodes};
 ghost use Rattle.rules.specs.Fan.{fanQuads};
 ghost use Rattle.fan_search.specs.Quads.{withCentre};
@@ -27,7 +28,7 @@ fn put_turned(quads: &mut [u16], at: usize, turned: bool, a: u16, b: u16, c: u16
 
 // The quads of the fan, from place `at` on; the centre has the number behind the points.
 pub fn put_fan(quads: &mut [u16], at: usize, points: &[f64], nodes: &[u16], p: Point)
-    requires { ⌜ (at + length (now nodes) / 2 * 4 ≤ length (now quads)) × (length (now nodes) % 2 ≡ 0) × (length (now points) % 2 ≡ 0) × (length (now points) ≤ 8192) ⌝ }
+    requires { ⌜ (at + length (now nodes) / 2 * 4 ≤ length (now quads)) × (length (now nodes) % 2 ≡ 0) × (length (now points) % 2 ≡ 0) × (length (now points) ≤ pointsLength) ⌝ }
     requires { ⌜ ((i : ℕ) → i < length (now nodes) → getD (now nodes) i 0 * 2 + 1 < length (now points)) ⌝ }
     ensures { λ _. ⌜ now (quads .exit) ≡ sets (now (quads .entry)) at (joined (map quadNodes (fanQuads (withCentre (now (points .entry)) p) (now (nodes .entry)) (length (now (points .entry)) / 2) (length (now (nodes .entry)) / 2)))) ⌝ }
 {

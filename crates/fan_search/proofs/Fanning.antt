@@ -1,24 +1,21 @@
 -- The quads of a fan by their points, and written one a turn.
 use mathlib.Core.Path.{_≡_, refl, sym, _∙_, ap}
-use mathlib.Core.Bool.{Bool, true, false, cond}
-use mathlib.Core.List.{List, [], _∷_, _++_}
+use mathlib.Core.Bool.{Bool, true, false}
+use mathlib.Core.List.{List, [], _∷_}
 use mathlib.Core.Logic.{⊎-elim, inl, inr}
-use Prim.Native.Nat.{ℕ, zero, suc, _+_, _*_, _/_, _%_, _<_, _≤_}
+use Prim.Native.Nat.{ℕ, zero, suc, _+_, _*_, _/_, _%_, _<_}
 use native.Mathlib.Nat.{mod-eq-of-lt, mod-self, not-suc-le-zero, le-of-suc-le-suc, eq-or-lt-of-le}
-use native.Mathlib.Numerals.{add-one}
 use native.Mathlib.Omega.{arith}
 use lib.Ieee.{Float, nan, lt}
 use lib.ListN.{length, getD, List·getD-append}
-use lib.Seq.{sets, getD-append-add, getD-at}
+use lib.Seq.{getD-append-add, getD-at}
 use Rattle.float.specs.Helpers.{decimal}
 use Rattle.geometry.specs.declared.Point.{Point}
 use Rattle.geometry.specs.Rings.{pointAt, next}
 use Rattle.geometry.specs.Measures.{quadArea, cornersPass}
-use Rattle.state.specs.State.{Quad, quad, quadNodes, joined}
-use Rattle.state.proofs.Stores.{sets-append}
-use Rattle.state.proofs.Growing.{numbers, numbers-append, length-numbers}
+use Rattle.state.specs.State.{Quad, quad}
 use Rattle.pairs.proofs.Sides.{next-cases}
-use Rattle.rules.specs.Checks.{every, quadPasses}
+use Rattle.rules.specs.Checks.{quadPasses}
 use Rattle.rules.specs.Closing.{areaOf, turnedQuad}
 use Rattle.rules.specs.Fan.{fanQuads}
 use Rattle.rules.proofs.FanGood.{fan-length}

@@ -1,6 +1,6 @@
 -- The search for the fan's centre, one point of the front and one point of the grid a turn.
-use mathlib.Core.Path.{_≡_, refl, sym, _∙_, ap}
-use mathlib.Core.Bool.{Bool, true, false, cond, _&&_}
+use mathlib.Core.Path.{_≡_, refl}
+use mathlib.Core.Bool.{Bool, true, false}
 use Prim.Native.Nat.{ℕ, _+_}
 use native.Mathlib.Numerals.{add-one}
 use lib.Ieee.{Float, inf, lt}
@@ -9,8 +9,7 @@ use Rattle.geometry.specs.declared.Point.{Point}
 use Rattle.geometry.specs.Rings.{Ring}
 use Rattle.geometry.specs.Measures.{inPolygon, ringDistance}
 use Rattle.geometry.specs.Domain.{contains}
-use Rattle.state.proofs.Basics.{and-false}
-use Rattle.rules.specs.Fan.{Box, box, Centre, gridStep, tryPoint, searchColumn, searchGrid}
+use Rattle.rules.specs.Fan.{Box, box, Centre, gridPoint, tryPoint, searchColumn, searchGrid}
 use mathlib.Core.List.{List}
 
 -- ---- the box
@@ -55,10 +54,10 @@ module _ (outline : List Ring) (r : Ring) (b : Box) where
   unfolding searchColumn
   column-none i best = refl
 
-  pub column-more : (i j : ℕ) (x y : Float) (best found next : Centre) → x ≡ gridStep (b .left) (b .right) i → y ≡ gridStep (b .low) (b .high) j
-      → found ≡ searchColumn outline r b i j best → next ≡ tryPoint outline r b (record { x = x; y = y }) found → next ≡ searchColumn outline r b i (j + 1) best
+  pub column-more : (i j : ℕ) (p : Point) (best found next : Centre) → p ≡ gridPoint b i j → found ≡ searchColumn outline r b i j best → next ≡ tryPoint outline r b p found
+      → next ≡ searchColumn outline r b i (j + 1) best
   unfolding searchColumn
-  column-more i j x y best found next hx hy hf hn = rw (add-one, ← hf, ← hx, ← hy) hn
+  column-more i j p best found next hp hf hn = rw (add-one, ← hf, ← hp) hn
 
   pub grid-none : (best : Centre) → best ≡ searchGrid outline r b 0 best
   unfolding searchGrid

@@ -44,6 +44,16 @@ fn grid_step(a: f64, b: f64, k: usize) -> f64
     a + (b - a) * ((k as u32) as f64) / 12.0
 }
 
+// The grid's point in column `i` and row `j`.
+fn grid_point(b: Box, i: usize, j: usize) -> Point
+    requires { ⌜ (i < 13) × (j < 13) ⌝ }
+    ensures { λ r. ⌜ r ≡ fans.gridPoint (boxed b) i j ⌝ }
+{
+    let x = grid_step(b.left, b.right, i);
+    let y = grid_step(b.low, b.high, j);
+    Point { x, y }
+}
+
 // `p` where it is in the domain, within the front and farther from it than `best`; otherwise `best`. The distance, which is dear,
 // comes last.
 fn try_point(
@@ -88,11 +98,10 @@ fn search_column(
     requires { ⌜ ((i : ℕ) → i < length (now nodes) → getD (now nodes) i 0 * 2 + 1 < length (now points)) ⌝ }
     ensures { λ r. ⌜ centred r ≡ fans.searchColumn (rings (now (coords .entry)) (now (loops .entry))) (nodeRing (now (points .entry)) (now (nodes .entry))) (boxed b) i 13 (centred best) ⌝ }
 {
-    let x = grid_step(b.left, b.right, i);
     let mut found = best;
     for j in 0..13 {
-        let y = grid_step(b.low, b.high, j);
-        found = try_point(coords, loops, points, nodes, Point { x, y }, found);
+        let p = grid_point(b, i, j);
+        found = try_point(coords, loops, points, nodes, p, found);
     }
     found
 }

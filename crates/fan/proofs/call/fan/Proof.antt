@@ -2,9 +2,8 @@
 use mathlib.Core.Path.{_≡_, sym, _∙_}
 use mathlib.Core.Bool.{true≢false}
 use Rattle.state.specs.Limits.{frontLimit, frontNodeLimit, pointsLength, quadsLength}
-use Rattle.state.specs.State.{Held, lengths, reading}
+use Rattle.state.specs.State.{Held, lengths}
 use Rattle.state.specs.Call.{held, lengthsOf}
-use Rattle.state.specs.Sound.{Sound}
 use Rattle.state.proofs.Sounding.{sound}
 use Rattle.state.proofs.Calling.{input-refuses, state-refuses, state-stands}
 use Rattle.input.specs.Job.{Job, job, inputNumber}

@@ -1,5 +1,5 @@
 -- `fan::quads::put_fan` meets its contract. The invariant: k of the fan's quads are written. The measure is the quads left.
-use mathlib.Core.Path.{_≡_, refl, _∙_, sym}
+use mathlib.Core.Path.{_≡_, refl, _∙_}
 use mathlib.Core.List.{map}
 use Prim.Native.Nat.{_/_, _≤_, _-_}
 use lib.ListN.{length}

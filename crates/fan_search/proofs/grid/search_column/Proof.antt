@@ -1,30 +1,26 @@
 -- `fan_search::grid::search_column` meets its contract. The invariant: `found` is what the first j points of the column give. The measure is the points left.
 use mathlib.Core.Path.{_≡_}
 use Prim.Native.Nat.{_≤_, _-_}
+use native.Mathlib.Omega.{arith}
 use Rattle.geometry.specs.Rings.{nodeRing}
 use Rattle.geometry.specs.Domain.{rings}
 use Rattle.rules.specs.Fan.{searchColumn}
 use Rattle.fan_search.specs.Values.{boxed, centred}
 use Rattle.fan_search.proofs.Searching.{column-none, column-more}
-use native.Mathlib.Omega.{arith}
-use borrow.Author.Needs.{needs}
 use Rattle.fan_search.proofs.grid.search_column.Statement.{statement}
 use Rattle.fan_search.proofs.grid.search_column.Tie as tie
 
 abbrev Inv-loop : tie.InvT-loop
-Inv-loop coords loops points nodes b i x found₀ j₀ found j = (j ≤ 13) × (centred found ≡ searchColumn (rings coords loops) (nodeRing points nodes) (boxed b) i j (centred found₀))
+Inv-loop coords loops points nodes b i found₀ j₀ found j = (j ≤ 13) × (centred found ≡ searchColumn (rings coords loops) (nodeRing points nodes) (boxed b) i j (centred found₀))
 
 abbrev μ-loop : tie.MeasureT-loop
-μ-loop coords loops points nodes b i x found₀ j₀ found j = 13 - j
-
-grid-step-requires : tie.Need-grid-step-requires Inv-loop μ-loop
-grid-step-requires c κs = omega arith
+μ-loop coords loops points nodes b i found₀ j₀ found j = 13 - j
 
 loop-holds : tie.Need-loop-holds Inv-loop μ-loop
 loop-holds c = (omega arith, column-none _ _ _ _ _)
 
-grid-step-requires-2 : tie.Need-grid-step-requires-2 Inv-loop μ-loop
-grid-step-requires-2 c κs = omega arith
+grid-point-requires : tie.Need-grid-point-requires Inv-loop μ-loop
+grid-point-requires c κs = (omega arith, omega arith)
 
 try-point-requires : tie.Need-try-point-requires Inv-loop μ-loop
 try-point-requires c κs =
@@ -39,11 +35,11 @@ loop-less c = omega arith
 
 loop-again : tie.Need-loop-again Inv-loop μ-loop
 loop-again c =
-    let at-grid-step2 : tie.After-grid-step2 Inv-loop μ-loop = search in
+    let at-grid-point : tie.After-grid-point Inv-loop μ-loop = search in
     let at-loop : tie.At-loop Inv-loop μ-loop = search in
-    let at-grid-step : tie.After-grid-step Inv-loop μ-loop = search in
     let entry : tie.Start Inv-loop μ-loop = search in
-    (omega arith, column-more _ _ (boxed (entry .args .b)) _ _ _ _ _ _ _ (at-grid-step .grid-step .ensures) (at-grid-step2 .grid-step2 .ensures) (at-loop .loop .inv .1) (c .try-point .ensures (boxed (entry .args .b))))
+    let b = boxed (entry .args .b) in
+    (omega arith, column-more _ _ b _ _ _ _ _ _ (at-grid-point .grid-point .ensures) (at-loop .loop .inv .1) (c .try-point .ensures b))
 
 returns : tie.Need-returns Inv-loop μ-loop
 returns c =
@@ -56,9 +52,8 @@ search-column-spec =
     (tie.spec
     Inv-loop
     μ-loop
-    grid-step-requires
     loop-holds
-    grid-step-requires-2
+    grid-point-requires
     try-point-requires
     add-j
     loop-less
