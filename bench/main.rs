@@ -1,6 +1,7 @@
-//! bench root | geometry | sample | rows
+//! bench root | geometry | sample | rows | closings | fan
 
 mod clock;
+mod fronts;
 mod geometry;
 #[allow(dead_code)]
 #[path = "../oracle/port/port.rs"]
@@ -17,8 +18,10 @@ fn main() {
         Some("geometry") => geometry::run(),
         Some("sample") => sample::run(),
         Some("rows") => rows::run(),
+        Some("closings") => fronts::closings(),
+        Some("fan") => fronts::fan(),
         _ => {
-            eprintln!("bench root|geometry|sample|rows");
+            eprintln!("bench root|geometry|sample|rows|closings|fan");
             std::process::exit(2)
         }
     }

@@ -3,9 +3,12 @@
 //! compare functions SEED COUNT   each function, COUNT random calls
 //! compare sample SEED COUNT      the sampling of COUNT jobs, random and damaged
 //! compare rows SEED COUNT        a row on each of COUNT states, sound and damaged
+//! compare close SEED COUNT       the closings of COUNT states, sound and damaged
+//! compare fan SEED COUNT         a fan on each of COUNT states, sound and damaged
 //!
 //! Every bit of the port's answers and every place of the lent buffers against the Rust's. The exit status is not 0 when
-//! one differs, or when a kind of answer that a call can give did not come up in 10,000 or more.
+//! one differs, or when a kind of answer that a call can give did not come up in 10,000 or more; for the closings and the
+//! fan, also when no splits or clearances tied in them.
 
 mod functions;
 mod paver;
@@ -16,13 +19,17 @@ use oracle::compare::{self, Report};
 use oracle::generate;
 use std::process::exit;
 
-fn told(report: Report, numbers: &[u8], count: u64) -> bool {
+fn told(report: Report, numbers: &[u8], seen: &[&str], count: u64) -> bool {
     print!("{}", report.text());
     let missing = report.missing(numbers);
     if !missing.is_empty() {
         println!("no answer had the number {missing:?}");
     }
-    report.differences.is_empty() && (missing.is_empty() || count < 10_000)
+    let unseen = report.unseen(seen);
+    if !unseen.is_empty() {
+        println!("did not come up: {unseen:?}");
+    }
+    report.different == 0 && (missing.is_empty() && unseen.is_empty() || count < 10_000)
 }
 
 fn other_counts(seed: u64) -> bool {
@@ -32,11 +39,19 @@ fn other_counts(seed: u64) -> bool {
 }
 
 fn sample(seed: u64, count: u64) -> bool {
-    told(compare::samples(&mut paver::Port, seed, count), &compare::SAMPLE_NUMBERS, count) & other_counts(seed)
+    told(compare::samples(&mut paver::Port, seed, count), &compare::SAMPLE_NUMBERS, &[], count) & other_counts(seed)
 }
 
 fn rows(seed: u64, count: u64) -> bool {
-    told(compare::rows(&mut paver::Port, seed, count), &compare::ROW_NUMBERS, count) & other_counts(seed)
+    told(compare::rows(&mut paver::Port, seed, count), &compare::ROW_NUMBERS, &[], count) & other_counts(seed)
+}
+
+fn close(seed: u64, count: u64) -> bool {
+    told(compare::closings(&mut paver::Port, seed, count), &compare::CLOSE_NUMBERS, &compare::CLOSE_SEEN, count) & other_counts(seed)
+}
+
+fn fan(seed: u64, count: u64) -> bool {
+    told(compare::fans(&mut paver::Port, seed, count), &compare::FAN_NUMBERS, &compare::FAN_SEEN, count) & other_counts(seed)
 }
 
 fn main() {
@@ -51,13 +66,15 @@ fn main() {
         "functions" => functions::run(seed, count),
         "sample" => sample(seed, count),
         "rows" => rows(seed, count),
-        "all" => root::run(seed, count) & functions::run(seed, count) & sample(seed, count) & rows(seed, count),
+        "close" => close(seed, count),
+        "fan" => fan(seed, count),
+        "all" => [root::run, functions::run, sample, rows, close, fan].into_iter().fold(true, |good, part| part(seed, count) & good),
         _ => stop(),
     };
     exit(if good { 0 } else { 1 })
 }
 
 fn stop() -> ! {
-    eprintln!("compare [root|functions|sample|rows] SEED COUNT");
+    eprintln!("compare [root|functions|sample|rows|close|fan] SEED COUNT");
     exit(2)
 }

@@ -1,6 +1,6 @@
 //! The port as a paver, to be compared with the oracle.
 
-use crate::port::{self, lengths_of, port_job};
+use crate::port::{self, lengths_of, port_job, PortJob};
 use oracle::calls::{Buffers, Counts, Job};
 use oracle::compare::Paver;
 
@@ -25,15 +25,19 @@ impl Paver for Port {
     fn job(&mut self, _: &Job, _: &mut Buffers) -> (u8, Counts) {
         unimplemented!("the port has no job call yet")
     }
-    fn close(&mut self, _: &Job, _: &mut Buffers, _: Counts) -> (u8, Counts) {
-        unimplemented!("the port has no closing call yet")
+    fn close(&mut self, job: &Job, b: &mut Buffers, counts: Counts) -> (u8, Counts) {
+        let mut counts = counts.list().map(|n| n as u64);
+        let n = port::close(&port_job(job, &lengths_of(job)), b, &mut counts);
+        answer(n, counts)
     }
-    fn fan(&mut self, _: &Job, _: &mut Buffers, _: Counts) -> (u8, Counts) {
-        unimplemented!("the port has no fan call yet")
+    fn fan(&mut self, job: &Job, b: &mut Buffers, counts: Counts) -> (u8, Counts) {
+        let mut counts = counts.list().map(|n| n as u64);
+        let n = port::fan(&port_job(job, &lengths_of(job)), b, &mut counts);
+        answer(n, counts)
     }
 }
 
-/// Counts of another length than eight are number 1: zeros after a sampling, no change after a row.
+/// Counts of another length than eight are number 1: zeros after a sampling, no change after a row, the closings or a fan.
 pub fn other_counts(job: &Job) -> Vec<String> {
     let lengths = lengths_of(job);
     let job = port_job(job, &lengths);
@@ -45,9 +49,13 @@ pub fn other_counts(job: &Job) -> Vec<String> {
     let mut wrong = Vec::new();
     for n in [0, 1, 7, 9, 100] {
         let (mut b, mut counts) = (held.clone(), vec![7; n]);
-        let number = port::row(&job, 0, &mut b, &mut counts);
-        if number != 1 || !b.same(&held) || counts != vec![7; n] {
-            wrong.push(format!("a row with {n} counts answers {number}, or changes something"));
+        type Call = fn(&PortJob, &mut Buffers, &mut [u64]) -> u32;
+        let calls: [(&str, Call); 3] = [("a row", |job, b, counts| port::row(job, 0, b, counts)), ("a closing", port::close), ("a fan", port::fan)];
+        for (what, call) in calls {
+            let number = call(&job, &mut b, &mut counts);
+            if number != 1 || !b.same(&held) || counts != vec![7; n] {
+                wrong.push(format!("{what} with {n} counts answers {number}, or changes something"));
+            }
         }
         let number = port::sample(&job, &mut b, &mut counts);
         if number != 1 || !b.same(&Buffers::new()) || counts != vec![0; n] {

@@ -339,7 +339,7 @@ pub fn row(job: &Job, front: usize, buffers: &mut Buffers, counts: Counts) -> (u
     answer(buffers, counts, result)
 }
 
-/// A state in the Rust's own form, ready for its rows.
+/// A state in the Rust's own form, ready for its rows, closings and fan.
 #[derive(Clone)]
 pub struct Ready {
     paving: Paving,
@@ -355,6 +355,17 @@ impl Ready {
     pub fn row(&mut self, job: &Job, front: usize) -> bool {
         let row = rust::next_row(&self.paving, front, &self.domain, job.h, &job.options);
         row.map(|row| rust::commit_row(&mut self.paving, front, row)).is_some()
+    }
+
+    /// The Rust's `close_small_fronts` alone; the quads then.
+    pub fn close(&mut self) -> usize {
+        rust::close_small_fronts(&mut self.paving);
+        self.paving.quads.len()
+    }
+
+    /// The Rust's `fan_fill` alone, which leaves its centre also when it fails; the number.
+    pub fn fan(&mut self) -> u8 {
+        rust::fan_fill(&mut self.paving, &self.domain).map_or_else(|e| number(&e), |()| 0)
     }
 }
 

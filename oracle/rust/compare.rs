@@ -2,8 +2,9 @@
 //! every buffer, f64 by their bits; and the time of both on the same work.
 
 use crate::calls::{self, Buffers, Counts, Job};
+use crate::fronts;
 use crate::generate::{self, Random};
-use crate::requests::job_lines;
+use crate::requests::{job_lines, state_lines};
 use crate::states::{self, State};
 use std::collections::BTreeMap;
 use std::time::{Duration, Instant};
@@ -38,34 +39,70 @@ impl Paver for Oracle {
     }
 }
 
+/// So many differences are told in full.
+const TOLD: u64 = 20;
+
 #[derive(Default)]
 pub struct Report {
-    pub compared: BTreeMap<String, u64>,
+    /// How often each number came up, by the call and what it was made on.
+    pub compared: BTreeMap<String, BTreeMap<u8, u64>>,
+    /// What else came up, as the oracle's own functions say.
+    pub seen: BTreeMap<String, u64>,
+    pub different: u64,
     pub differences: Vec<String>,
     pub oracle_time: Duration,
     pub port_time: Duration,
 }
 
 impl Report {
+    /// How often each number came up.
+    fn numbers(&self) -> BTreeMap<u8, u64> {
+        let mut out = BTreeMap::new();
+        for (number, n) in self.compared.values().flatten() {
+            *out.entry(*number).or_insert(0) += n;
+        }
+        out
+    }
+
+    /// A line for each kind with its numbers, then all numbers, and what else came up.
     pub fn text(&self) -> String {
+        let list = |numbers: &BTreeMap<u8, u64>| -> String {
+            let words: Vec<String> = numbers.iter().map(|(number, n)| format!("{number:02} {n}")).collect();
+            words.join(", ")
+        };
         let mut out = String::new();
-        let mut all = 0;
-        for (what, n) in &self.compared {
-            out += &format!("{n:>10}  {what}\n");
-            all += n;
+        for (what, numbers) in &self.compared {
+            out += &format!("{:>10}  {what}: {}\n", numbers.values().sum::<u64>(), list(numbers));
         }
         for d in &self.differences {
             out += &format!("DIFFERENCE {d}\n");
         }
+        if self.different > TOLD {
+            out += &format!("{} more differences\n", self.different - TOLD);
+        }
+        out += &format!("numbers: {}\n", list(&self.numbers()));
+        if !self.seen.is_empty() {
+            let words: Vec<String> = self.seen.iter().map(|(what, n)| format!("{what} {n}")).collect();
+            out += &format!("seen: {}\n", words.join(", "));
+        }
         let (port, rust) = (self.port_time.as_secs_f64(), self.oracle_time.as_secs_f64());
         out += &format!("port {port:.3} s, Rust {rust:.3} s, ratio {:.3}\n", port / rust);
-        out + &format!("{all} compared, {} differences\n", self.differences.len())
+        out + &format!("{} compared, {} differences\n", self.numbers().values().sum::<u64>(), self.different)
     }
 
     /// Those of some numbers that no answer had.
     pub fn missing(&self, numbers: &[u8]) -> Vec<u8> {
-        let given = |n: &u8| self.compared.keys().any(|what| what.ends_with(&format!(": {n:02}")));
-        numbers.iter().filter(|n| !given(n)).copied().collect()
+        let given = self.numbers();
+        numbers.iter().filter(|n| !given.contains_key(n)).copied().collect()
+    }
+
+    /// Those of some things that did not come up.
+    pub fn unseen<'a>(&self, things: &[&'a str]) -> Vec<&'a str> {
+        things.iter().filter(|what| !self.seen.contains_key(**what)).copied().collect()
+    }
+
+    fn see(&mut self, what: impl Into<String>) {
+        *self.seen.entry(what.into()).or_insert(0) += 1;
     }
 }
 
@@ -115,8 +152,8 @@ fn place(name: &str, x: &[u16], y: &[u16]) -> Option<String> {
     Some(format!("{name}[{i}] {} and not {}", y[i], x[i]))
 }
 
-/// One call of both on the same state.
-fn both(report: &mut Report, port: &mut dyn Paver, call: Call, job: &Job, s: &State, kind: &str, name: &str) -> State {
+/// One call of both on the same state: the oracle's number and what it left.
+fn both(report: &mut Report, port: &mut dyn Paver, call: Call, job: &Job, s: &State, kind: &str, name: &str) -> (u8, State) {
     let a = perform(&mut Oracle, call, job, s);
     let b = perform(port, call, job, s);
     let word = match call {
@@ -126,13 +163,17 @@ fn both(report: &mut Report, port: &mut dyn Paver, call: Call, job: &Job, s: &St
         Call::Close => "closings",
         Call::Fan => "fan",
     };
-    *report.compared.entry(format!("{word}, {kind}: {:02}", a.0)).or_insert(0) += 1;
+    *report.compared.entry(format!("{word}, {kind}")).or_default().entry(a.0).or_insert(0) += 1;
     report.oracle_time += a.2;
     report.port_time += b.2;
     if let Some(d) = difference(&a, &b) {
-        report.differences.push(format!("{name}, {word} ({kind}): {d}\n{}", job_lines(job)));
+        report.different += 1;
+        if report.different <= TOLD {
+            let state = if matches!(call, Call::Sample | Call::Job) { String::new() } else { state_lines(&s.buffers, &s.counts) };
+            report.differences.push(format!("{name}, {word} ({kind}): {d}\n{}{state}", job_lines(job)));
+        }
     }
-    a.1
+    (a.0, a.1)
 }
 
 /// A buffer of another length, now and then.
@@ -191,7 +232,7 @@ pub fn rows(port: &mut dyn Paver, seed: u64, count: u64) -> Report {
         s.counts = counts;
         let mut ask = |job: &Job, s: &State, front: usize, kind: &str| {
             left = left.saturating_sub(1);
-            both(&mut report, port, Call::Row(front), job, s, kind, &name)
+            both(&mut report, port, Call::Row(front), job, s, kind, &name).1
         };
         // one of the states on which a row was laid, each as likely as another
         let mut ready = None;
@@ -235,6 +276,152 @@ pub fn rows(port: &mut dyn Paver, seed: u64, count: u64) -> Report {
     report
 }
 
+/// The numbers that the closings can answer.
+pub const CLOSE_NUMBERS: [u8; 9] = [0, 1, 2, 3, 4, 5, 6, 21, 25];
+
+/// What the closings of many states have to come to.
+pub const CLOSE_SEEN: [&str; 10] = [
+    "4 nodes closed", "4 nodes kept", "6 nodes closed", "6 nodes kept", "clockwise closed", "6 nodes, splits tied",
+    "all three splits tied as the best", "splits 0 and 1 tied as the best", "splits 0 and 2 tied as the best", "splits 1 and 2 tied as the best",
+];
+
+/// The numbers that a fan can answer.
+pub const FAN_NUMBERS: [u8; 13] = [0, 1, 2, 3, 4, 5, 6, 21, 23, 24, 25, 26, 27];
+
+/// What fans on many states have to come to.
+pub const FAN_SEEN: [&str; 8] = [
+    "no front, nothing added", "06 nodes granted", "08 nodes granted", "10 nodes granted", "12 nodes granted", "clockwise granted",
+    "clearances tied", "clearances tied, another first along y",
+];
+
+/// The closings of `count` states.
+pub fn closings(port: &mut dyn Paver, seed: u64, count: u64) -> Report {
+    on_states(port, Call::Close, seed, count)
+}
+
+/// A fan on `count` states.
+pub fn fans(port: &mut dyn Paver, seed: u64, count: u64) -> Report {
+    on_states(port, Call::Fan, seed, count)
+}
+
+/// Small fronts for each job of the generator.
+const SMALL: usize = 16;
+
+/// Up to so many points, rows are laid before a call.
+const ROWS_UP_TO: usize = 300;
+
+/// One call on what a job left, on its sampled loops as they are and after rows, and on small fronts; each of these now and
+/// then damaged in one of the ways that number 25 names. Behind the counts stands noise.
+fn on_states(port: &mut dyn Paver, call: Call, seed: u64, count: u64) -> Report {
+    let mut report = Report::default();
+    let mut left = count;
+    for index in 0.. {
+        if left == 0 {
+            break;
+        }
+        let mut made = generate::job(seed, index);
+        narrow(&mut made.job);
+        let r = &mut Random::new(seed ^ 0xC0FFEE, index);
+        let name = format!("seed {seed} job {index}");
+        let mut ask = |r: &mut Random, job: &Job, s: &State, kind: &str| {
+            left = left.saturating_sub(1);
+            let mut given = states::with_noise(r, s);
+            let mut kind = kind;
+            match r.below(100) {
+                0..=15 => (given, kind) = states::one_fault(r, &given),
+                16 => {
+                    shorten(r, &mut given.buffers);
+                    kind = "a buffer's length";
+                }
+                _ => {}
+            }
+            let (number, after) = both(&mut report, port, call, job, &given, kind, &name);
+            if number == 0 && call == Call::Close {
+                see_closings(&mut report, &given, &after);
+            } else if number == 0 {
+                see_fan(&mut report, job, &given, &after);
+            }
+        };
+        let mut s = State { buffers: Buffers::new(), counts: Counts::default() };
+        let (_, counts) = calls::job(&made.job, &mut s.buffers);
+        s.counts = counts;
+        ask(r, &made.job, &s, "left by a job");
+        let (_, counts) = calls::sample(&made.job, &mut s.buffers);
+        s.counts = counts;
+        ask(r, &made.job, &s, "sampled loops");
+        if (1..=ROWS_UP_TO).contains(&s.counts.points) {
+            for front in 0..s.counts.fronts {
+                while let (0, counts) = calls::row(&made.job, front, &mut s.buffers, s.counts) {
+                    s.counts = counts;
+                }
+            }
+            ask(r, &made.job, &s, "after rows");
+        }
+        for _ in 0..SMALL {
+            let mut small = fronts::small(r, &made.job, call == Call::Fan);
+            narrow(&mut small.job);
+            ask(r, &small.job, &small.state, small.kind);
+        }
+    }
+    report
+}
+
+/// Which fronts were closed, and how often two splits tied.
+fn see_closings(report: &mut Report, before: &State, after: &State) {
+    let b = &before.buffers;
+    let mut added = 0;
+    for front in b.fronts(&before.counts) {
+        let n = front.len();
+        let closed = fronts::closing(b, &front, false).len();
+        added += closed;
+        match (n, closed) {
+            (4 | 6, 0) => report.see(format!("{n} nodes kept")),
+            (4 | 6, _) => report.see(format!("{n} nodes closed")),
+            _ => report.see("others kept"),
+        }
+        if n == 6 {
+            let values = fronts::splits(b, &front).map(|split| split.1);
+            let best = values.iter().flatten().copied().fold(f64::NEG_INFINITY, f64::max);
+            if [(0, 1), (0, 2), (1, 2)].into_iter().any(|(i, j)| values[i].is_some() && values[i] == values[j]) {
+                report.see("6 nodes, splits tied");
+            }
+            match values.map(|v| v == Some(best)) {
+                [true, true, true] => report.see("all three splits tied as the best"),
+                [true, true, _] => report.see("splits 0 and 1 tied as the best"),
+                [true, _, true] => report.see("splits 0 and 2 tied as the best"),
+                [_, true, true] => report.see("splits 1 and 2 tied as the best"),
+                _ => {}
+            }
+        }
+        if closed > 0 && fronts::clockwise(b, &front) {
+            report.see("clockwise closed");
+        }
+    }
+    assert!(after.counts.quads == before.counts.quads + added, "the closings by the single functions are those of the Rust");
+}
+
+/// On how many nodes fans were granted, and how often grid points tied for the greatest clearance.
+fn see_fan(report: &mut Report, job: &Job, before: &State, after: &State) {
+    let b = &before.buffers;
+    let Some(front) = b.fronts(&before.counts).pop() else {
+        report.see("no front, nothing added");
+        return;
+    };
+    report.see(if front.len() > 12 { "more nodes granted".to_string() } else { format!("{:02} nodes granted", front.len()) });
+    if fronts::clockwise(b, &front) {
+        report.see("clockwise granted");
+    }
+    let grid = fronts::grid(job, b, before.counts.points, &front);
+    let best = fronts::first_best(&grid).expect("a granted fan has a centre");
+    if grid.iter().filter(|(_, clear)| *clear == best.1).count() > 1 {
+        report.see("clearances tied");
+    }
+    if fronts::first_best(&fronts::y_outermost(grid)) != Some(best) {
+        report.see("clearances tied, another first along y");
+    }
+    assert!(after.buffers.point(before.counts.points) == best.0, "the centre by the single functions is that of the Rust");
+}
+
 /// Jobs 0 to `count` of a seed, and calls on states made from each.
 pub fn run(port: &mut dyn Paver, seed: u64, count: u64) -> Report {
     let mut report = Report::default();
@@ -247,7 +434,7 @@ pub fn run(port: &mut dyn Paver, seed: u64, count: u64) -> Report {
         if r.chance(2) {
             shorten(r, &mut lent.buffers);
         }
-        let answer = both(&mut report, port, Call::Job, &made.job, &lent, "whole", &name);
+        let (_, answer) = both(&mut report, port, Call::Job, &made.job, &lent, "whole", &name);
         if answer.buffers.points.len() != calls::POINTS || !answer.buffers.fits() {
             continue;
         }
@@ -303,11 +490,11 @@ impl Paver for Faulty {
     fn close(&mut self, job: &Job, b: &mut Buffers, c: Counts) -> (u8, Counts) {
         let (n, mut c) = calls::close(job, b, c);
         self.spoil(n, &mut c, b);
-        (n, c)
+        (if self.0 == 5 && n == 25 { 22 } else { n }, c)
     }
     fn fan(&mut self, job: &Job, b: &mut Buffers, c: Counts) -> (u8, Counts) {
         let (n, mut c) = calls::fan(job, b, c);
         self.spoil(n, &mut c, b);
-        (n, c)
+        (if self.0 == 5 && n == 25 { 22 } else { n }, c)
     }
 }

@@ -340,8 +340,8 @@ fn just_under(r: &mut Random, job: &mut Job, refused: u8, low: f64, high: f64, s
     job.h = if r.chance(90) { high } else { low };
 }
 
-/// One fault that a number of document 01 is for, or a value just within.
-fn damage(r: &mut Random, job: &mut Job) {
+/// One fault that a number of document 01 is for, or a value just within; the outer loop has three points or more.
+pub fn damage(r: &mut Random, job: &mut Job) {
     let odd = [f64::NAN, f64::INFINITY, f64::NEG_INFINITY, -1.0, -0.0, 0.0, 5e-324, 1e300];
     match r.below(16) {
         0 => job.h = r.pick(&odd),

@@ -3,9 +3,9 @@
 //! `cut` is made at build time from the Rust source; the rest is what stands
 //! around it: document 01's measures (`quality`), the added limits (`limits`),
 //! calls over lent buffers (`calls`), the texts (`text`, `requests`), single
-//! functions (`functions`), jobs and states from a seed (`generate`, `states`),
-//! the counting of demand 3 (`demands`), and any paver side by side with the
-//! oracle (`compare`).
+//! functions (`functions`), jobs and states from a seed (`generate`, `states`,
+//! `fronts`), the counting of demand 3 (`demands`), and any paver side by side
+//! with the oracle (`compare`), among them pavers with a fault (`faults`).
 
 #[allow(dead_code)]
 #[rustfmt::skip]
@@ -14,6 +14,8 @@ mod cut;
 pub mod calls;
 pub mod compare;
 pub mod demands;
+pub mod faults;
+pub mod fronts;
 pub mod functions;
 pub mod generate;
 pub mod limits;

@@ -4,9 +4,12 @@
 //! driver demands SEED COUNT   pits demand 3 against the oracle
 //! driver selftest SEED COUNT  compares the oracle with itself, and with pavers that have a fault
 
-use oracle::{compare, demands, generate, requests, text};
+use oracle::{compare, demands, faults, generate, requests, text};
 use std::io::{Read, Write};
 use std::process::exit;
+
+/// The self-test makes so many states for the closings and for the fan, or COUNT if that is more: every fault comes up in them.
+const LEAST_STATES: u64 = 2_000;
 
 fn input() -> Vec<u8> {
     let mut bytes = Vec::new();
@@ -55,15 +58,30 @@ fn main() {
             let (seed, count) = seed_and_count(&words[1..]);
             let mut bad = false;
             type Run = fn(&mut dyn compare::Paver, u64, u64) -> compare::Report;
-            for (what, run) in [("whole", compare::run as Run), ("sample", compare::samples), ("rows", compare::rows)] {
+            let runs = [
+                ("whole", compare::run as Run, count), ("sample", compare::samples, count), ("rows", compare::rows, count),
+                ("closings", compare::closings, count.max(LEAST_STATES)), ("fan", compare::fans, count.max(LEAST_STATES)),
+            ];
+            for (what, run, count) in runs {
                 let report = run(&mut compare::Oracle, seed, count);
                 print(&format!("{what}\n{}", report.text()));
-                bad |= !report.differences.is_empty();
+                bad |= report.different > 0;
+                let mut faulty = |paver: &mut dyn compare::Paver, name: &str, seen: bool| {
+                    let n = run(paver, seed, count).different;
+                    print(&format!("{what}, {name}: {n} differences\n"));
+                    bad |= seen && n == 0;
+                };
                 for fault in 0..compare::FAULTS {
-                    let n = run(&mut compare::Faulty(fault), seed, count).differences.len();
-                    print(&format!("{what}, fault {fault}: {n} differences\n"));
                     // a sampling has no quads to exchange
-                    bad |= n == 0 && !(what == "sample" && fault == 1);
+                    faulty(&mut compare::Faulty(fault), &format!("fault {fault}"), what != "sample" || fault != 1);
+                }
+                let slips: &[&str] = match what {
+                    "closings" => &faults::CLOSE_FAULTS,
+                    "fan" => &faults::FAN_FAULTS,
+                    _ => &[],
+                };
+                for (i, name) in slips.iter().enumerate() {
+                    faulty(&mut faults::Slip(i), name, true);
                 }
             }
             exit(bad as i32)

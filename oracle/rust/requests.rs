@@ -62,6 +62,24 @@ pub fn job_lines(job: &Job) -> String {
     out
 }
 
+/// The lines of a state, by bits; of a state that is large or not sound, the counts and front lengths alone.
+pub fn state_lines(b: &Buffers, c: &Counts) -> String {
+    let mut out = text::counts("counts", c);
+    let sound = b.fits() && c.points <= 200 && c.quads <= 200 && c.fronts <= 16;
+    if !sound || b.front_lengths[..c.fronts].iter().map(|&n| n as usize).sum::<usize>() > calls::FRONT_NODES {
+        return out + &format!("front lengths {:?}\n", b.front_lengths);
+    }
+    for i in 0..c.points {
+        let p = b.point(i);
+        out += &format!("p\t{}\t{}\n", by_bits(p[0]), by_bits(p[1]));
+    }
+    for (word, nodes) in (0..c.quads).map(|i| ("q", b.quad(i).to_vec())).chain(b.fronts(c).into_iter().map(|f| ("f", f))) {
+        let words: Vec<String> = nodes.iter().map(usize::to_string).collect();
+        out += &format!("{word}\t{}\n", words.join("\t"));
+    }
+    out
+}
+
 /// What stands between a head and `end`.
 struct Body {
     job: Job,

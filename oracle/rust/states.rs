@@ -20,11 +20,17 @@ pub fn noise(r: &mut Random) -> Buffers {
     b
 }
 
+/// The front nodes of a state, as far as the buffer goes.
+fn nodes_held(s: &State) -> usize {
+    let nodes: usize = s.buffers.front_lengths[..s.counts.fronts].iter().map(|&n| n as usize).sum();
+    nodes.min(calls::FRONT_NODES)
+}
+
 /// The state with noise beyond its counts, which no call may read.
 pub fn with_noise(r: &mut Random, s: &State) -> State {
     let mut b = noise(r);
     let c = s.counts;
-    let nodes: usize = s.buffers.front_lengths[..c.fronts].iter().map(|&n| n as usize).sum();
+    let nodes = nodes_held(s);
     b.points[..2 * c.points].copy_from_slice(&s.buffers.points[..2 * c.points]);
     b.quads[..4 * c.quads].copy_from_slice(&s.buffers.quads[..4 * c.quads]);
     b.front_nodes[..nodes].copy_from_slice(&s.buffers.front_nodes[..nodes]);
@@ -213,7 +219,7 @@ const WAYS: [Way; 22] = [
 /// The state after one of the ways, and which.
 pub fn one_fault(r: &mut Random, s: &State) -> (State, &'static str) {
     let mut s = s.clone();
-    let nodes = s.buffers.front_lengths[..s.counts.fronts].iter().map(|&n| n as usize).sum();
+    let nodes = nodes_held(&s);
     let (name, way) = WAYS[r.below(WAYS.len())];
     way(r, &mut s.counts, &mut s.buffers, nodes);
     (s, name)
