@@ -1,8 +1,8 @@
 -- A pass on sound and clean buffers: its order, its begin, and what a row of it leaves for the rest.
 use mathlib.Core.Path.{_≡_, refl, sym, _∙_, ap}
-use mathlib.Core.Bool.{Bool, true, false, cond, true≢false}
-use mathlib.Core.List.{List, [], _∷_}
-use Prim.Native.Nat.{ℕ, _+_, _*_, _<_, _≤_}
+use mathlib.Core.Bool.{true, false, cond, true≢false}
+use mathlib.Core.List.{List, _∷_}
+use Prim.Native.Nat.{ℕ, _+_, _*_, _<_}
 use native.Mathlib.Numerals.{add-one}
 use native.Mathlib.Omega.{arith}
 use lib.Dec.{eqb}
@@ -18,7 +18,7 @@ use Rattle.state.specs.Sound.{Sound, Clean, sizesOf}
 use Rattle.state.proofs.Cutting.{length-cut}
 use Rattle.state.proofs.Reading.{sound-counted, sizes-long, fronts-read}
 use Rattle.state.proofs.Written.{reading-written}
-use Rattle.state.proofs.Fitting.{Fit, sound-written, clean-written, fit-read}
+use Rattle.state.proofs.Fitting.{sound-written, clean-written, fit-read}
 use Rattle.input.specs.Job.{Job}
 use Rattle.rules.specs.Row.{committed, nextRow}
 use Rattle.rules.specs.Passes.{ordered, frontLengthAt, passOrder, rowsInOrder, begun, onePass}

@@ -2,7 +2,7 @@
 use mathlib.Core.Path.{_≡_, refl, sym, _∙_, ap}
 use mathlib.Core.Bool.{Bool, true, false}
 use mathlib.Core.List.{List, [], _∷_}
-use Prim.Native.Nat.{ℕ, suc, _+_, _-_, _<_, _≤_}
+use Prim.Native.Nat.{ℕ, zero, suc, _+_, _-_, _<_}
 use native.Mathlib.Omega.{arith}
 use borrow.Author.Tests.{eq-eqb, ne-eqb}
 use lib.Dec.{eqb}
@@ -60,6 +60,24 @@ pass-kept : (j : Job) (s t : State) → Fit s → onePass j s ≡ gives t → Fi
 unfolding onePass
 pass-kept j s t fit e = let k = rows-kept j (passOrder s) (begun s) t (fit-begun s fit) e in (k .fit, k .passes)
 
+-- ---- an outcome, written, by its answer
+
+done-is : {b : Held} (o : Outcome State) → ((t : State) → o ≡ gives t → Fit t) → gives b ≡ writtenOf o → Sound b × Clean b × (o ≡ gives (reading b))
+done-is (refused n) fit e = absurd (not-both (sym e))
+done-is (gives t) fit e =
+    let q = gives-same e in
+    let f = fit t refl in
+    let back = reading-written t (let v = f .even in omega arith) in
+    (rw q (sound-written t f), rw q (clean-written t f), rw (q, back))
+
+refused-is : (n : ℕ) (o : Outcome State) → refused n ≡ writtenOf o → o ≡ refused n
+refused-is n (refused m) e = ap refused (sym (refused-same e))
+refused-is n (gives t) e = absurd (not-both e)
+
+counts-read : (b : Held) → (reading b .passes ≡ b .counts .«passes_begun») × (reading b .rowRounds ≡ b .counts .«row_rounds»)
+unfolding reading
+counts-read b = (refl, refl)
+
 -- ---- after a pass that is done, from b to b′
 
 pub record Passing (j : Job) (b b′ : Held) : Type 0 where
@@ -68,37 +86,16 @@ pub record Passing (j : Job) (b b′ : Held) : Type 0 where
   pub passes : b′ .counts .«passes_begun» ≡ b .counts .«passes_begun» + 1
   pub gave : onePass j (reading b) ≡ gives (reading b′)
 
-counts-read : (b : Held) → (reading b .passes ≡ b .counts .«passes_begun») × (reading b .rowRounds ≡ b .counts .«row_rounds»)
-unfolding reading
-counts-read b = (refl, refl)
-
-counts-written : (t : State) → written t .counts .«passes_begun» ≡ t .passes
-unfolding written
-counts-written t = refl
-
-module _ (j : Job) (b : Held) (sound : Sound b) where
-  pub passing : (b′ : Held) → gives b′ ≡ writtenOf (onePass j (reading b)) → Passing j b b′
-  passing b′ e = go (onePass j (reading b)) refl
-    where
-      go : (o : Outcome State) → onePass j (reading b) ≡ o → Passing j b b′
-      go (refused n) f = absurd (not-both (sym (e ∙ ap writtenOf f)))
-      go (gives t) f =
-          let q : b′ ≡ written t = gives-same (e ∙ ap writtenOf f) in
-          let k = pass-kept j (reading b) t (fit-read b sound) f in
-          let back = reading-written t (let v = k .0 .even in omega arith) in
-          record {
-            sound = rw q (sound-written t (k .0));
-            clean = rw q (clean-written t (k .0));
-            passes = rw (q, counts-written t, ← counts-read b .0) (k .1);
-            gave = rw (q, back) f;
-          }
-
-  refuses : (n : ℕ) → refused n ≡ writtenOf (onePass j (reading b)) → onePass j (reading b) ≡ refused n
-  refuses n e = go (onePass j (reading b)) refl
-    where
-      go : (o : Outcome State) → onePass j (reading b) ≡ o → onePass j (reading b) ≡ refused n
-      go (refused m) f = let q = refused-same (e ∙ ap writtenOf f) in f ∙ ap refused (sym q)
-      go (gives t) f = absurd (not-both (e ∙ ap writtenOf f))
+pub passing : (j : Job) (b b′ : Held) → Sound b → gives b′ ≡ writtenOf (onePass j (reading b)) → Passing j b b′
+passing j b b′ sound e =
+    let fit = fit-read b sound in
+    let d = done-is (onePass j (reading b)) (λ t f. pass-kept j (reading b) t fit f .0) e in
+    record {
+      sound = d .0;
+      clean = d .1;
+      passes = sym (counts-read b′ .0) ∙ pass-kept j (reading b) (reading b′) fit (d .2) .1 ∙ ap (λ n. n + 1) (counts-read b .0);
+      gave = d .2;
+    }
 
 -- ---- the passes that are left, after one
 
@@ -131,7 +128,7 @@ module _ (j : Job) (most : ℕ) (b₀ : Held) where
 
     module _ (h : k < most) where
       refused-too : (n : ℕ) → refused n ≡ writtenOf (onePass j (reading b)) → refused n ≡ writtenOf (somePasses j most (reading b₀))
-      refused-too n e = sym (ap writtenOf (one-more h ∙ first-pass j (most - (k + 1)) (reading b) (refused n) (refuses j b (r .sound) n e)))
+      refused-too n e = sym (ap writtenOf (one-more h ∙ first-pass j (most - (k + 1)) (reading b) (refused n) (refused-is n (onePass j (reading b)) e)))
 
       module _ (a : Answer) (l : Held) (e : passed a l ≡ writtenOf (onePass j (reading b))) where
         -- a refused pass refuses all, whatever is held then
@@ -143,7 +140,7 @@ module _ (j : Job) (most : ℕ) (b₀ : Held) where
           b′ = held (l .points) (l .quads) (l .frontNodes) (l .frontLengths) c
 
           p : Passing j b b′
-          p = passing j b (r .sound) b′ (sym (ap (λ x. passed x l) q) ∙ e)
+          p = passing j b b′ (r .sound) (sym (ap (λ x. passed x l) q) ∙ e)
 
           then-on : (t : Bool) → eqb (reading b′ .rowRounds) (reading b .rowRounds) ≡ t → somePasses j most (reading b₀) ≡ onward j (most - (k + 1)) (reading b′) t
           then-on t z = one-more h ∙ first-pass j (most - (k + 1)) (reading b) (gives (reading b′)) (p .gave) ∙ ap (onward j (most - (k + 1)) (reading b′)) z
@@ -169,3 +166,27 @@ module _ (j : Job) (most : ℕ) (b₀ : Held) where
     ran-all e =
         let z : most - k ≡ 0 = omega arith in
         rw (r .rest, z) (ap gives (r .clean))
+
+-- ---- for whoever goes on after the passes: what they answer, by the answer's case
+
+fit-passes : (j : Job) (n : ℕ) (s t : State) → Fit s → somePasses j n s ≡ gives t → Fit t
+unfolding somePasses
+fit-passes j zero s t fit e = rw (gives-same e) at fit
+fit-passes j (suc n) s t fit e = go (onePass j s) refl (λ u. fit-passes j n u t)
+  where
+    go : (o : Outcome State) → onePass j s ≡ o → ((u : State) → Fit u → somePasses j n u ≡ gives t → Fit t) → Fit t
+    go (refused k) f more = absurd (not-both (sym (first-pass j n s (refused k) f) ∙ e))
+    go (gives u) f more = last (eqb (u .rowRounds) (s .rowRounds)) refl
+      where
+        last : (b : Bool) → eqb (u .rowRounds) (s .rowRounds) ≡ b → Fit t
+        last true g = let k = pass-kept j s u fit f in rw (gives-same (sym (first-pass j n s (gives u) f ∙ ap (onward j n u) g) ∙ e)) at (k .0)
+        last false g = more u (pass-kept j s u fit f .0) (sym (first-pass j n s (gives u) f ∙ ap (onward j n u) g) ∙ e)
+
+module _ (j : Job) (most : ℕ) (b : Held) (sound : Sound b) (l : Held) where
+  -- the counts are c
+  pub passes-done : (c : Counts) → passed (Done c) l ≡ writtenOf (somePasses j most (reading b))
+      → let b′ = held (l .points) (l .quads) (l .frontNodes) (l .frontLengths) c in Sound b′ × Clean b′ × (somePasses j most (reading b) ≡ gives (reading b′))
+  passes-done c e = done-is (somePasses j most (reading b)) (λ t f. fit-passes j most (reading b) t (fit-read b sound) f) e
+
+  pub passes-refused : (n : ℕ) → passed (Refused n) l ≡ writtenOf (somePasses j most (reading b)) → somePasses j most (reading b) ≡ refused n
+  passes-refused n e = refused-is n (somePasses j most (reading b)) e

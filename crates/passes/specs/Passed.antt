@@ -1,5 +1,5 @@
 -- What passes on lent buffers answer and leave. Definitions only.
-use Prim.Native.Nat.{ℕ, _+_}
+use Prim.Native.Nat.{_+_}
 use mathlib.Core.Bool.{Bool, false}
 use lib.Dec.{eqb}
 use Rattle.state.specs.declared.Counts.{Counts}

@@ -1,7 +1,6 @@
 // One pass: the fronts in order, and a row on each.
 ghost use mathlib.Core.Path.{_≡_};
-ghost use mathlib.Core.Bool.{true};
-ghost use Prim.Native.Nat.{_*_, _+_, _<_, _≤_};
+ghost use Prim.Native.Nat.{_*_, _<_, _≤_};
 ghost use lib.ListN.{length};
 ghost use Rattle.geometry.specs.Domain.{sumOf};
 ghost use Rattle.state.specs.State.{reading};

@@ -25,7 +25,7 @@ front-at-requires : tie.Need-front-at-requires Inv-loop μ-loop
 front-at-requires c κs = omega arith
 
 nodes-of-requires : tie.Need-nodes-of-requires Inv-loop μ-loop
-nodes-of-requires c κs = 
+nodes-of-requires c κs =
     let at-loop : tie.At-loop Inv-loop μ-loop = search in
     let entry : tie.Start Inv-loop μ-loop = search in
     let p = entry .pre .0 in
@@ -33,7 +33,7 @@ nodes-of-requires c κs =
     let e = c .front-at .ensures in omega arith
 
 front-length-requires : tie.Need-front-length-requires Inv-loop μ-loop
-front-length-requires c κs = 
+front-length-requires c κs =
     let at-front-at : tie.After-front-at Inv-loop μ-loop = search in
     let at-loop : tie.At-loop Inv-loop μ-loop = search in
     let entry : tie.Start Inv-loop μ-loop = search in
@@ -53,7 +53,7 @@ loop-less : tie.Need-loop-less Inv-loop μ-loop
 loop-less c = omega arith
 
 loop-again : tie.Need-loop-again Inv-loop μ-loop
-loop-again c = 
+loop-again c =
     let at-nodes-of : tie.After-nodes-of Inv-loop μ-loop = search in
     let at-front-at : tie.After-front-at Inv-loop μ-loop = search in
     let at-loop : tie.At-loop Inv-loop μ-loop = search in
@@ -63,7 +63,7 @@ loop-again c =
     (omega arith, length-set (at-loop .loop .lengths) (at-loop .loop .i) (c .front-length .result) ∙ at-loop .loop .inv .1, lengths-more (lengthOf (entry .args .points .now) (entry .args .front-nodes .now) (entry .args .sizes .now)) (at-loop .loop .lengths) (at-loop .loop .i) _ (omega arith) (c .front-length .ensures ∙ ap (λ x. frontLength (nodeRing (entry .args .points .now) x)) f) (at-loop .loop .inv .2))
 
 returns : tie.Need-returns Inv-loop μ-loop
-returns c = 
+returns c =
     let at-loop : tie.At-loop Inv-loop μ-loop = search in
     λ k h. at-loop .loop .inv .2 k (omega arith)
 

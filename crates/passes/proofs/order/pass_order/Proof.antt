@@ -13,7 +13,7 @@ sorted-requires : tie.Need-sorted-requires
 sorted-requires c κs = search needs
 
 returns : tie.Need-returns
-returns c = 
+returns c =
     let at-lengths-of : tie.After-lengths-of = search in
     let entry : tie.Start = search in
     order-measured (lengthIn (at-lengths-of .lengths-of .result)) (lengthOf (entry .args .points .now) (entry .args .front-nodes .now) (entry .args .sizes .now)) (length (entry .args .sizes .now)) (c .sorted .result) (at-lengths-of .lengths-of .ensures) (c .sorted .ensures)

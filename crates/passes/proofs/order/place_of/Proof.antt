@@ -2,7 +2,6 @@
 use mathlib.Core.Path.{_≡_, refl}
 use Prim.Native.Nat.{_-_, _≤_}
 use native.Mathlib.Omega.{arith}
-use lib.ListN.{length}
 use Rattle.passes.specs.Order.{lengthIn}
 use Rattle.passes.proofs.Inserting.{Passed, passed-more, found-before, found-last}
 use Rattle.passes.proofs.order.place_of.Statement.{statement}
@@ -30,18 +29,18 @@ shared-slice-read-other : tie.Need-shared-slice-read-other Inv-loop μ-loop
 shared-slice-read-other c = omega arith
 
 mul-if1 : tie.Need-mul-if1 Inv-loop μ-loop
-mul-if1 c = 
+mul-if1 c =
     let at-loop : tie.At-loop Inv-loop μ-loop = search in
     let entry : tie.Start Inv-loop μ-loop = search in
     let b = entry .pre .2 (at-loop .loop .k) (omega arith) in omega arith
 
 element-copy-out-if1 : tie.Need-element-copy-out-if1 Inv-loop μ-loop
-element-copy-out-if1 c = 
+element-copy-out-if1 c =
     let at-loop : tie.At-loop Inv-loop μ-loop = search in
     let entry : tie.Start Inv-loop μ-loop = search in entry .pre .2 (at-loop .loop .k) (omega arith)
 
 returns : tie.Need-returns Inv-loop μ-loop
-returns c = 
+returns c =
     let at-loop : tie.At-loop Inv-loop μ-loop = search in
     let entry : tie.Start Inv-loop μ-loop = search in
     (omega arith, found-before (lengthIn (entry .args .lengths .now)) (entry .args .i) (entry .args .order .now) (entry .pre .1) (at-loop .loop .k) (omega arith) (at-loop .loop .inv .1) (omega arith) (c .if1 .taken))
@@ -53,13 +52,13 @@ loop-less : tie.Need-loop-less Inv-loop μ-loop
 loop-less c = omega arith
 
 loop-again : tie.Need-loop-again Inv-loop μ-loop
-loop-again c = 
+loop-again c =
     let at-loop : tie.At-loop Inv-loop μ-loop = search in
     let entry : tie.Start Inv-loop μ-loop = search in
     (omega arith, passed-more (lengthIn (entry .args .lengths .now)) (entry .args .i) (entry .args .order .now) (entry .pre .1) (at-loop .loop .k) (omega arith) (c .if1 .left) (at-loop .loop .inv .1))
 
 returns-2 : tie.Need-returns-2 Inv-loop μ-loop
-returns-2 c = 
+returns-2 c =
     let at-loop : tie.At-loop Inv-loop μ-loop = search in
     let entry : tie.Start Inv-loop μ-loop = search in
     let e : at-loop .loop .k ≡ entry .args .i = omega arith in

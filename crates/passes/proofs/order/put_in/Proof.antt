@@ -17,7 +17,7 @@ add-k-end : tie.Need-add-k-end Inv-loop μ-loop
 add-k-end c = omega arith
 
 loop-holds : tie.Need-loop-holds Inv-loop μ-loop
-loop-holds c = 
+loop-holds c =
     let entry : tie.Start Inv-loop μ-loop = search in
     let p = entry .pre in
     (omega arith, omega arith, refl, carried-first (entry .args .order .now) (entry .args .at) (entry .args .i) (p .0) (p .1))
@@ -41,7 +41,7 @@ loop-less : tie.Need-loop-less Inv-loop μ-loop
 loop-less c = omega arith
 
 loop-again : tie.Need-loop-again Inv-loop μ-loop
-loop-again c = 
+loop-again c =
     let at-loop : tie.At-loop Inv-loop μ-loop = search in
     let entry : tie.Start Inv-loop μ-loop = search in
     let p = entry .pre in
@@ -52,7 +52,7 @@ same-length : tie.Need-same-length Inv-loop μ-loop
 same-length c = c .before .loop .inv .2
 
 returns : tie.Need-returns Inv-loop μ-loop
-returns c = 
+returns c =
     let at-loop : tie.At-loop Inv-loop μ-loop = search in
     let entry : tie.Start Inv-loop μ-loop = search in
     let p = entry .pre in

@@ -1,8 +1,8 @@
 -- `passes::order::sorted` meets its contract. The invariant: the first i fronts are in order in the first i places. The measure is the fronts left.
 use mathlib.Core.Path.{_≡_, refl, sym, _∙_}
-use Prim.Native.Nat.{_-_, _≤_, _<_}
+use Prim.Native.Nat.{_-_, _≤_}
 use native.Mathlib.Omega.{arith}
-use lib.ListN.{getD, length, take}
+use lib.ListN.{length, take}
 use Rattle.rules.specs.Passes.{ordered}
 use Rattle.passes.specs.Order.{lengthIn}
 use Rattle.passes.proofs.Inserting.{places-below, places-more}
@@ -23,7 +23,7 @@ slice-aggregate-place-of : tie.Need-slice-aggregate-place-of Inv-loop μ-loop
 slice-aggregate-place-of c = sym (c .before .before .loop .inv .1)
 
 place-of-requires : tie.Need-place-of-requires Inv-loop μ-loop
-place-of-requires c κs = 
+place-of-requires c κs =
     let at-loop : tie.At-loop Inv-loop μ-loop = search in
     let entry : tie.Start Inv-loop μ-loop = search in
     (omega arith, omega arith, λ k h. let b = places-below (lengthIn (entry .args .lengths .now)) (at-loop .loop .i) (at-loop .loop .order) (at-loop .loop .inv .2) k h in omega arith)
@@ -41,7 +41,7 @@ loop-less : tie.Need-loop-less Inv-loop μ-loop
 loop-less c = omega arith
 
 loop-again : tie.Need-loop-again Inv-loop μ-loop
-loop-again c = 
+loop-again c =
     let at-put-in : tie.After-put-in Inv-loop μ-loop = search in
     let at-place-of : tie.After-place-of Inv-loop μ-loop = search in
     let at-loop : tie.At-loop Inv-loop μ-loop = search in
@@ -49,7 +49,7 @@ loop-again c =
     (omega arith, at-put-in .put-in .kept .0 ∙ at-loop .loop .inv .1, places-more (lengthIn (entry .args .lengths .now)) (at-loop .loop .i) (at-place-of .place-of .result) (at-loop .loop .order) _ (at-loop .loop .inv .2) (at-place-of .place-of .ensures .1) (at-put-in .put-in .ensures))
 
 returns : tie.Need-returns Inv-loop μ-loop
-returns c = 
+returns c =
     let at-loop : tie.At-loop Inv-loop μ-loop = search in
     let entry : tie.Start Inv-loop μ-loop = search in
     let e : at-loop .loop .i ≡ entry .args .n = omega arith in rw e at (at-loop .loop .inv .2)

@@ -15,7 +15,7 @@ returns : tie.Need-returns
 returns c = search needs
 
 returns-2 : tie.Need-returns-2
-returns-2 c = 
+returns-2 c =
     let at-answer : tie.After-answer = search in
     sym (ap full (at-answer .answer .given .1))
 

@@ -17,7 +17,7 @@ use Rattle.passes.proofs.pass.one_pass.Statement.{statement}
 use Rattle.passes.proofs.pass.one_pass.Tie as tie
 
 abbrev Inv-loop : tie.InvT-loop
-Inv-loop coords loop-lengths h options points₀ quads₀ front-nodes₀ front-lengths₀ end fronts order c₀ k₀ points quads front-nodes front-lengths c k = 
+Inv-loop coords loop-lengths h options points₀ quads₀ front-nodes₀ front-lengths₀ end fronts order c₀ k₀ points quads front-nodes front-lengths c k =
     Rowed (job coords loop-lengths h options) fronts order (held points₀ quads₀ front-nodes₀ front-lengths₀ c₀) k (held points quads front-nodes front-lengths c) × (k ≤ fronts)
 
 abbrev μ-loop : tie.MeasureT-loop
@@ -65,32 +65,32 @@ heldAfter c =
     held (last .0) (last .1 .0) (last .1 .1 .0) (last .1 .1 .1 .0) (looping c .loop .c)
 
 mul-end : tie.Need-mul-end Inv-loop μ-loop
-mul-end c = 
+mul-end c =
     let entry : tie.Start Inv-loop μ-loop = search in
     let s = sound entry in omega arith
 
 slice-reshare-prefix-pass-order : tie.Need-slice-reshare-prefix-pass-order Inv-loop μ-loop
-slice-reshare-prefix-pass-order c = 
+slice-reshare-prefix-pass-order c =
     let entry : tie.Start Inv-loop μ-loop = search in
     let s = sound entry in omega arith
 
 slice-aggregate-pass-order : tie.Need-slice-aggregate-pass-order Inv-loop μ-loop
-slice-aggregate-pass-order c = 
+slice-aggregate-pass-order c =
     let entry : tie.Start Inv-loop μ-loop = search in
     let s = sound entry in sym (length-take-le _ (entry .args .points .now) (omega arith))
 
 slice-reshare-prefix-pass-order-2 : tie.Need-slice-reshare-prefix-pass-order-2 Inv-loop μ-loop
-slice-reshare-prefix-pass-order-2 c = 
+slice-reshare-prefix-pass-order-2 c =
     let entry : tie.Start Inv-loop μ-loop = search in
     let s = sound entry in omega arith
 
 slice-aggregate-pass-order-2 : tie.Need-slice-aggregate-pass-order-2 Inv-loop μ-loop
-slice-aggregate-pass-order-2 c = 
+slice-aggregate-pass-order-2 c =
     let entry : tie.Start Inv-loop μ-loop = search in
     let s = sound entry in sym (length-take-le _ (entry .args .front-lengths .now) (omega arith))
 
 pass-order-requires : tie.Need-pass-order-requires Inv-loop μ-loop
-pass-order-requires c κs = 
+pass-order-requires c κs =
     let entry : tie.Start Inv-loop μ-loop = search in
     let s = sound entry in
     let b = given entry in
@@ -98,29 +98,29 @@ pass-order-requires c κs =
     ((k, fits b (sound-counted b s)), read-below b s)
 
 begun-requires : tie.Need-begun-requires Inv-loop μ-loop
-begun-requires c κs = 
+begun-requires c κs =
     let entry : tie.Start Inv-loop μ-loop = search in
     entry .pre .1 .1 .0
 
 loop-holds : tie.Need-loop-holds Inv-loop μ-loop
-loop-holds c = 
+loop-holds c =
     let at-begun : tie.After-begun Inv-loop μ-loop = search in
     let at-pass-order : tie.After-pass-order Inv-loop μ-loop = search in
     let entry = start at-pass-order in
     (pass-begins (jobAt entry) (given entry) _ (at-begun .begun .ensures) (at-pass-order .pass-order .result) (sound entry) (entry .pre .1 .0), omega arith)
 
 mul-li : tie.Need-mul-li Inv-loop μ-loop
-mul-li c = 
+mul-li c =
     let at-loop : tie.At-loop Inv-loop μ-loop = search in
     let s = sound (start (ordering at-loop)) in omega arith
 
 array-read-li : tie.Need-array-read-li Inv-loop μ-loop
-array-read-li c = 
+array-read-li c =
     let at-loop : tie.At-loop Inv-loop μ-loop = search in
     let s = sound (start (ordering at-loop)) in omega arith
 
 next-row-requires : tie.Need-next-row-requires Inv-loop μ-loop
-next-row-requires c κs = 
+next-row-requires c κs =
     let at-loop : tie.At-loop Inv-loop μ-loop = search in
     let p = ordering at-loop in
     let entry = start p in
@@ -131,7 +131,7 @@ is-full-requires : tie.Need-is-full-requires Inv-loop μ-loop
 is-full-requires c κs = search needs
 
 same-length : tie.Need-same-length Inv-loop μ-loop
-same-length c = 
+same-length c =
     let at-next-row : tie.After-next-row Inv-loop μ-loop = search in
     let at-loop : tie.At-loop Inv-loop μ-loop = search in
     let s = sound (start (ordering at-loop)) in
@@ -139,7 +139,7 @@ same-length c =
     let g = at-next-row .next-row .kept in omega arith
 
 same-length-2 : tie.Need-same-length-2 Inv-loop μ-loop
-same-length-2 c = 
+same-length-2 c =
     let at-next-row : tie.After-next-row Inv-loop μ-loop = search in
     let at-loop : tie.At-loop Inv-loop μ-loop = search in
     let s = sound (start (ordering at-loop)) in
@@ -147,7 +147,7 @@ same-length-2 c =
     let g = at-next-row .next-row .kept in omega arith
 
 same-length-3 : tie.Need-same-length-3 Inv-loop μ-loop
-same-length-3 c = 
+same-length-3 c =
     let at-next-row : tie.After-next-row Inv-loop μ-loop = search in
     let at-loop : tie.At-loop Inv-loop μ-loop = search in
     let s = sound (start (ordering at-loop)) in
@@ -155,7 +155,7 @@ same-length-3 c =
     let g = at-next-row .next-row .kept in omega arith
 
 same-length-4 : tie.Need-same-length-4 Inv-loop μ-loop
-same-length-4 c = 
+same-length-4 c =
     let at-next-row : tie.After-next-row Inv-loop μ-loop = search in
     let at-loop : tie.At-loop Inv-loop μ-loop = search in
     let s = sound (start (ordering at-loop)) in
@@ -163,7 +163,7 @@ same-length-4 c =
     let g = at-next-row .next-row .kept in omega arith
 
 returns : tie.Need-returns Inv-loop μ-loop
-returns c = 
+returns c =
     let at-is-full : tie.After-is-full Inv-loop μ-loop = search in
     let at-next-row : tie.After-next-row Inv-loop μ-loop = search in
     let at-loop = looping at-next-row in
@@ -184,7 +184,7 @@ loop-less : tie.Need-loop-less Inv-loop μ-loop
 loop-less c = omega arith
 
 loop-again : tie.Need-loop-again Inv-loop μ-loop
-loop-again c = 
+loop-again c =
     let at-counts-after : tie.After-counts-after Inv-loop μ-loop = search in
     let at-else : tie.Else1 Inv-loop μ-loop = search in
     let at-is-full : tie.After-is-full Inv-loop μ-loop = search in
@@ -198,31 +198,31 @@ loop-again c =
     (rowed-more (jobAt entry) (b .counts .fronts) (p .pass-order .result) _ (order-long b (sound entry) (p .pass-order .result) (order-found p)) (at-loop .loop .k) (heldAt at-loop) (at-loop .loop .inv .0) more (at-next-row .next-row .result) l (at-next-row .next-row .ensures) (sym (at-is-full .is-full .ensures) ∙ at-else .if1 .left) _ (ap (held (l .points) (l .quads) (l .frontNodes) (l .frontLengths)) (at-counts-after .counts-after .ensures)), omega arith)
 
 same-length-5 : tie.Need-same-length-5 Inv-loop μ-loop
-same-length-5 c = 
+same-length-5 c =
     let at-loop : tie.At-loop Inv-loop μ-loop = search in
     let s = sound (start (ordering at-loop)) in
     let v = at-loop .loop .inv .0 .sound in omega arith
 
 same-length-6 : tie.Need-same-length-6 Inv-loop μ-loop
-same-length-6 c = 
+same-length-6 c =
     let at-loop : tie.At-loop Inv-loop μ-loop = search in
     let s = sound (start (ordering at-loop)) in
     let v = at-loop .loop .inv .0 .sound in omega arith
 
 same-length-7 : tie.Need-same-length-7 Inv-loop μ-loop
-same-length-7 c = 
+same-length-7 c =
     let at-loop : tie.At-loop Inv-loop μ-loop = search in
     let s = sound (start (ordering at-loop)) in
     let v = at-loop .loop .inv .0 .sound in omega arith
 
 same-length-8 : tie.Need-same-length-8 Inv-loop μ-loop
-same-length-8 c = 
+same-length-8 c =
     let at-loop : tie.At-loop Inv-loop μ-loop = search in
     let s = sound (start (ordering at-loop)) in
     let v = at-loop .loop .inv .0 .sound in omega arith
 
 returns-2 : tie.Need-returns-2 Inv-loop μ-loop
-returns-2 c = 
+returns-2 c =
     let at-loop : tie.At-loop Inv-loop μ-loop = search in
     let p = ordering at-loop in
     let entry = start p in

@@ -11,7 +11,7 @@ use Rattle.passes.proofs.run.some_passes.Statement.{statement}
 use Rattle.passes.proofs.run.some_passes.Tie as tie
 
 abbrev Inv-loop : tie.InvT-loop
-Inv-loop coords loop-lengths h options most points₀ quads₀ front-nodes₀ front-lengths₀ c₀ counter₀ points quads front-nodes front-lengths c counter = 
+Inv-loop coords loop-lengths h options most points₀ quads₀ front-nodes₀ front-lengths₀ c₀ counter₀ points quads front-nodes front-lengths c counter =
     Ran (job coords loop-lengths h options) most (held points₀ quads₀ front-nodes₀ front-lengths₀ c₀) counter (held points quads front-nodes front-lengths c) × (counter ≤ most)
 
 abbrev μ-loop : tie.MeasureT-loop
@@ -45,12 +45,12 @@ heldAfter c =
     held (last .0) (last .1 .0) (last .1 .1 .0) (last .1 .1 .1 .0) (looping c .loop .c)
 
 loop-holds : tie.Need-loop-holds Inv-loop μ-loop
-loop-holds c = 
+loop-holds c =
     let entry : tie.Start Inv-loop μ-loop = search in
     (ran-none (jobAt entry) (entry .args .most) (given entry) (entry .pre .0) (entry .pre .1 .0), omega arith)
 
 one-pass-requires : tie.Need-one-pass-requires Inv-loop μ-loop
-one-pass-requires c κs = 
+one-pass-requires c κs =
     let at-loop : tie.At-loop Inv-loop μ-loop = search in
     let entry = start at-loop in
     let v = at-loop .loop .inv .0 in
@@ -65,7 +65,7 @@ enum-told : tie.Need-enum-told Inv-loop μ-loop
 enum-told c = search needs
 
 same-length : tie.Need-same-length Inv-loop μ-loop
-same-length c = 
+same-length c =
     let at-one-pass : tie.After-one-pass Inv-loop μ-loop = search in
     let at-loop = looping at-one-pass in
     let s = start at-loop .pre .0 in
@@ -73,7 +73,7 @@ same-length c =
     let g = at-one-pass .one-pass .kept in omega arith
 
 same-length-2 : tie.Need-same-length-2 Inv-loop μ-loop
-same-length-2 c = 
+same-length-2 c =
     let at-one-pass : tie.After-one-pass Inv-loop μ-loop = search in
     let at-loop = looping at-one-pass in
     let s = start at-loop .pre .0 in
@@ -81,7 +81,7 @@ same-length-2 c =
     let g = at-one-pass .one-pass .kept in omega arith
 
 same-length-3 : tie.Need-same-length-3 Inv-loop μ-loop
-same-length-3 c = 
+same-length-3 c =
     let at-one-pass : tie.After-one-pass Inv-loop μ-loop = search in
     let at-loop = looping at-one-pass in
     let s = start at-loop .pre .0 in
@@ -89,7 +89,7 @@ same-length-3 c =
     let g = at-one-pass .one-pass .kept in omega arith
 
 same-length-4 : tie.Need-same-length-4 Inv-loop μ-loop
-same-length-4 c = 
+same-length-4 c =
     let at-one-pass : tie.After-one-pass Inv-loop μ-loop = search in
     let at-loop = looping at-one-pass in
     let s = start at-loop .pre .0 in
@@ -97,7 +97,7 @@ same-length-4 c =
     let g = at-one-pass .one-pass .kept in omega arith
 
 returns : tie.Need-returns Inv-loop μ-loop
-returns c = 
+returns c =
     let at-told : tie.After-enum-told Inv-loop μ-loop = search in
     let at-one-pass : tie.After-one-pass Inv-loop μ-loop = search in
     let at-loop = looping at-one-pass in
@@ -106,7 +106,7 @@ returns c =
     ran-refused (jobAt entry) (entry .args .most) (given entry) (at-loop .loop .counter) (heldAt at-loop) (at-loop .loop .inv .0) more (at-one-pass .one-pass .result) (heldAfter at-one-pass) (at-one-pass .one-pass .ensures) _ (at-told .enum-told .given .1) _
 
 same-length-5 : tie.Need-same-length-5 Inv-loop μ-loop
-same-length-5 c = 
+same-length-5 c =
     let at-one-pass : tie.After-one-pass Inv-loop μ-loop = search in
     let at-loop = looping at-one-pass in
     let s = start at-loop .pre .0 in
@@ -114,7 +114,7 @@ same-length-5 c =
     let g = at-one-pass .one-pass .kept in omega arith
 
 same-length-6 : tie.Need-same-length-6 Inv-loop μ-loop
-same-length-6 c = 
+same-length-6 c =
     let at-one-pass : tie.After-one-pass Inv-loop μ-loop = search in
     let at-loop = looping at-one-pass in
     let s = start at-loop .pre .0 in
@@ -122,7 +122,7 @@ same-length-6 c =
     let g = at-one-pass .one-pass .kept in omega arith
 
 same-length-7 : tie.Need-same-length-7 Inv-loop μ-loop
-same-length-7 c = 
+same-length-7 c =
     let at-one-pass : tie.After-one-pass Inv-loop μ-loop = search in
     let at-loop = looping at-one-pass in
     let s = start at-loop .pre .0 in
@@ -130,7 +130,7 @@ same-length-7 c =
     let g = at-one-pass .one-pass .kept in omega arith
 
 same-length-8 : tie.Need-same-length-8 Inv-loop μ-loop
-same-length-8 c = 
+same-length-8 c =
     let at-one-pass : tie.After-one-pass Inv-loop μ-loop = search in
     let at-loop = looping at-one-pass in
     let s = start at-loop .pre .0 in
@@ -138,7 +138,7 @@ same-length-8 c =
     let g = at-one-pass .one-pass .kept in omega arith
 
 returns-2 : tie.Need-returns-2 Inv-loop μ-loop
-returns-2 c = 
+returns-2 c =
     let at-answer : tie.After-answer Inv-loop μ-loop = search in
     let at-one-pass : tie.After-one-pass Inv-loop μ-loop = search in
     let at-loop = looping at-one-pass in
@@ -156,7 +156,7 @@ loop-less : tie.Need-loop-less Inv-loop μ-loop
 loop-less c = omega arith
 
 loop-again : tie.Need-loop-again Inv-loop μ-loop
-loop-again c = 
+loop-again c =
     let at-else : tie.Else1 Inv-loop μ-loop = search in
     let at-answer : tie.After-answer Inv-loop μ-loop = search in
     let at-one-pass : tie.After-one-pass Inv-loop μ-loop = search in
@@ -166,31 +166,31 @@ loop-again c =
     (ran-more (jobAt entry) (entry .args .most) (given entry) (at-loop .loop .counter) (heldAt at-loop) (at-loop .loop .inv .0) more (at-one-pass .one-pass .result) (heldAfter at-one-pass) (at-one-pass .one-pass .ensures) _ (at-answer .answer .given .1) (at-else .if1 .left), omega arith)
 
 same-length-9 : tie.Need-same-length-9 Inv-loop μ-loop
-same-length-9 c = 
+same-length-9 c =
     let at-loop : tie.At-loop Inv-loop μ-loop = search in
     let s = start at-loop .pre .0 in
     let v = at-loop .loop .inv .0 .sound in omega arith
 
 same-length-10 : tie.Need-same-length-10 Inv-loop μ-loop
-same-length-10 c = 
+same-length-10 c =
     let at-loop : tie.At-loop Inv-loop μ-loop = search in
     let s = start at-loop .pre .0 in
     let v = at-loop .loop .inv .0 .sound in omega arith
 
 same-length-11 : tie.Need-same-length-11 Inv-loop μ-loop
-same-length-11 c = 
+same-length-11 c =
     let at-loop : tie.At-loop Inv-loop μ-loop = search in
     let s = start at-loop .pre .0 in
     let v = at-loop .loop .inv .0 .sound in omega arith
 
 same-length-12 : tie.Need-same-length-12 Inv-loop μ-loop
-same-length-12 c = 
+same-length-12 c =
     let at-loop : tie.At-loop Inv-loop μ-loop = search in
     let s = start at-loop .pre .0 in
     let v = at-loop .loop .inv .0 .sound in omega arith
 
 returns-3 : tie.Need-returns-3 Inv-loop μ-loop
-returns-3 c = 
+returns-3 c =
     let at-loop : tie.At-loop Inv-loop μ-loop = search in
     let entry = start at-loop in
     ran-all (jobAt entry) (entry .args .most) (given entry) (at-loop .loop .counter) (heldAt at-loop) (at-loop .loop .inv .0) (omega arith)
