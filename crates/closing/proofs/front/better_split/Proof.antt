@@ -31,8 +31,8 @@ passes-at c = search
 
 decided-at : (c : tie.After-beats)
     → (let q = second-at (passes-at (lesser-at c)) in let p = first-at q in let s = start p in
-      bestSplit (s .args .limit) (s .args .points .now) (s .args .nodes .now) (s .args .i + 1)
-      ≡ cond (c .beats .result) (splitOf (record { closure = Two (p .quad-on .result) (q .quad-on2 .result); score = lesser-at c .lesser .result })) (splitOf (s .args .best)))
+    bestSplit (s .args .limit) (s .args .points .now) (s .args .nodes .now) (s .args .i + 1)
+    ≡ cond (c .beats .result) (splitOf (record { closure = Two (p .quad-on .result) (q .quad-on2 .result); score = lesser-at c .lesser .result })) (splitOf (s .args .best)))
 decided-at c =
     let at-lesser = lesser-at c in
     let at-least2 : tie.After-least-of2 = search in
