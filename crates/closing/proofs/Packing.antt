@@ -76,16 +76,18 @@ module _ (N L : List ℕ) (marks : List Bool) where
       unfolding keptBy
       kept-next t e = rw (add-one, e)
 
-      moved-nodes : (t : Bool) → t ≡ getD marks i false → sets n (place .node) (cond t (take (getD l i 0) (drop s n)) []) ≡ sets N 0 (joined (kept (i + 1)))
+      joined-next : (t : Bool) → t ≡ getD marks i false → joined (kept (i + 1)) ≡ joined (kept i) ++ cond t (getD fronts i []) []
       unfolding joined
-      moved-nodes t e =
-          let j : joined (kept (i + 1)) ≡ joined (kept i) ++ cond t (getD fronts i []) [] = ap joined (kept-next t e) ∙ joined-append (kept i) (cond t (getD fronts i [] ∷ []) []) ∙ ap (λ r. joined (kept i) ++ r) (one t) in
-          let k : place .node ≡ 0 + length (joined (kept i)) = rw zero-add (moved .node) in
-          rw (nodes-are, k, j) (ap (λ r. sets r (0 + length (joined (kept i))) (cond t (getD fronts i []) [])) (moved .nodes) ∙ sym (sets-append (joined (kept i)) (cond t (getD fronts i []) []) N 0))
+      joined-next t e = ap joined (kept-next t e) ∙ joined-append (kept i) (cond t (getD fronts i [] ∷ []) []) ∙ ap (λ r. joined (kept i) ++ r) (one t)
         where
           one : (t : Bool) → joined (cond t (getD fronts i [] ∷ []) []) ≡ cond t (getD fronts i []) []
           one true = append-nil (getD fronts i [])
           one false = refl
+
+      moved-nodes : (t : Bool) → t ≡ getD marks i false → sets n (place .node) (cond t (take (getD l i 0) (drop s n)) []) ≡ sets N 0 (joined (kept (i + 1)))
+      moved-nodes t e =
+          let k : place .node ≡ 0 + length (joined (kept i)) = rw zero-add (moved .node) in
+          rw (nodes-are, k, joined-next t e) (ap (λ r. sets r (0 + length (joined (kept i))) (cond t (getD fronts i []) [])) (moved .nodes) ∙ sym (sets-append (joined (kept i)) (cond t (getD fronts i []) []) N 0))
 
       moved-lengths : (t : Bool) → t ≡ getD marks i false → sets l (place .front) (cond t (getD l i 0 ∷ []) []) ≡ sets L 0 (map length (kept (i + 1)))
       moved-lengths t e =
@@ -113,11 +115,10 @@ module _ (N L : List ℕ) (marks : List Bool) where
           go true e nodes lengths starts =
               let low = moved .low in
               let few = moved .few in
-              let j : joined (kept (i + 1)) ≡ joined (kept i) ++ getD fronts i [] = unfold joined in (ap joined (kept-next true e) ∙ joined-append (kept i) (getD fronts i [] ∷ []) ∙ ap (λ r. joined (kept i) ++ r) (append-nil (getD fronts i []))) in
               record {
                 nodes = nodes;
                 lengths = lengths;
-                node = rw (j, length-append, ← length-is, ← moved .node);
+                node = rw (joined-next true e, length-append, ← length-is, ← moved .node);
                 front = rw (kept-next true e, length-append, ← moved .front);
                 start = starts;
                 low = omega arith;

@@ -17,6 +17,13 @@ use Rattle.closing.specs.declared.front.Split.{Split}
 use Rattle.closing.specs.declared.front.Closure.the-variants.{Two}
 use Rattle.closing.specs.Closures.{quadOf, closureQuads, splitOf}
 
+-- the side of a choice that was taken
+pub first-taken : {A : Type 0} (t : Bool) (x a b : A) → x ≡ cond t a b → t ≡ true → a ≡ x
+first-taken t x a b e h = sym (e ∙ rw h)
+
+pub second-taken : {A : Type 0} (t : Bool) (x a b : A) → x ≡ cond t a b → t ≡ false → b ≡ x
+second-taken t x a b e h = sym (e ∙ rw h)
+
 -- a quad turned or not, by the sign of its area x
 module _ (pts : List Float) (a b c d : ℕ) (x : Float) (area : x ≡ areaOf pts (state.quad a b c d)) where
   pub turned-round : lt x (decimal 0 0) ≡ true → state.quad d c b a ≡ turnedQuad pts (state.quad a b c d)
@@ -76,8 +83,6 @@ module _ (limit : Float) (pts : List Float) (f : List ℕ) (i : ℕ) (small : i 
     score-is : score ≡ both
     score-is = hs ∙ rw (hm, hn)
 
-    pub beaten : t ≡ true → splitOf (record { closure = Two p q; score = score }) ≡ bestSplit limit pts f (i + 1)
-    beaten h = sym (next-split a b t ha hb (rw score-is at ht) ∙ rw (passed, too, h, score-is))
-
-    pub unbeaten : t ≡ false → splitOf best ≡ bestSplit limit pts f (i + 1)
-    unbeaten h = sym (next-split a b t ha hb (rw score-is at ht) ∙ rw (passed, too, h))
+    -- the better of the two
+    pub decided : bestSplit limit pts f (i + 1) ≡ cond t (splitOf (record { closure = Two p q; score = score })) (splitOf best)
+    decided = next-split a b t ha hb (rw score-is at ht) ∙ rw (passed, too, score-is)

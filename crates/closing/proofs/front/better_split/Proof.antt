@@ -1,7 +1,13 @@
 -- `closing::front::better_split` meets its contract.
+use mathlib.Core.Path.{_≡_}
+use mathlib.Core.Bool.{cond}
+use Prim.Native.Nat.{_+_}
 use native.Mathlib.Omega.{arith}
 use borrow.Author.Tests.{not-true, not-false}
-use Rattle.closing.proofs.Splitting.{first-fails, second-fails, beaten, unbeaten}
+use Rattle.rules.specs.Closing.{bestSplit}
+use Rattle.closing.specs.declared.front.Closure.the-variants.{Two}
+use Rattle.closing.specs.Closures.{splitOf}
+use Rattle.closing.proofs.Splitting.{first-taken, second-taken, first-fails, second-fails, decided}
 use borrow.Author.Needs.{needs}
 use Rattle.closing.proofs.front.better_split.Statement.{statement}
 use Rattle.closing.proofs.front.better_split.Tie as tie
@@ -14,6 +20,31 @@ first-at c = search
 
 abbrev start : tie.After-quad-on → tie.Start
 start c = search
+
+-- ---- both quads pass: the two splits compared
+
+abbrev lesser-at : tie.After-beats → tie.After-lesser
+lesser-at c = search
+
+abbrev passes-at : tie.After-lesser → tie.After-passes
+passes-at c = search
+
+decided-at : (c : tie.After-beats)
+    → (let q = second-at (passes-at (lesser-at c)) in let p = first-at q in let s = start p in
+    bestSplit (s .args .limit) (s .args .points .now) (s .args .nodes .now) (s .args .i + 1)
+    ≡ cond (c .beats .result) (splitOf (record { closure = Two (p .quad-on .result) (q .quad-on2 .result); score = lesser-at c .lesser .result })) (splitOf (s .args .best)))
+decided-at c =
+    let at-lesser = lesser-at c in
+    let at-least2 : tie.After-least-of2 = search in
+    let at-least : tie.After-least-of = search in
+    let at-if2 : tie.Else2 = search in
+    let at-passes2 : tie.After-passes2 = search in
+    let at-if1 : tie.Else1 = search in
+    let at-passes = passes-at at-lesser in
+    let q = second-at at-passes in
+    let p = first-at q in
+    let s = start p in
+    decided (s .args .limit) (s .args .points .now) (s .args .nodes .now) (s .args .i) (s .pre .0 .1) (s .args .best) (s .pre .1 .1) _ _ (p .quad-on .ensures .0) (q .quad-on2 .ensures .0) _ _ _ _ _ _ (at-passes .passes .ensures) (not-false _ (at-if1 .if1 .left)) (at-passes2 .passes2 .ensures) (not-false _ (at-if2 .if2 .left)) (at-least .least-of .ensures) (at-least2 .least-of2 .ensures) (at-lesser .lesser .ensures) (c .beats .ensures)
 
 add-quad-on : tie.Need-add-quad-on
 add-quad-on c = search needs
@@ -80,32 +111,12 @@ beats-requires c κs = search needs
 returns-3 : tie.Need-returns-3
 returns-3 c =
     let at-beats : tie.After-beats = search in
-    let at-lesser : tie.After-lesser = search in
-    let at-least2 : tie.After-least-of2 = search in
-    let at-least : tie.After-least-of = search in
-    let at-if2 : tie.Else2 = search in
-    let at-passes2 : tie.After-passes2 = search in
-    let at-if1 : tie.Else1 = search in
-    let at-passes : tie.After-passes = search in
-    let q = second-at at-passes in
-    let p = first-at q in
-    let s = start p in
-    beaten (s .args .limit) (s .args .points .now) (s .args .nodes .now) (s .args .i) (s .pre .0 .1) (s .args .best) (s .pre .1 .1) _ _ (p .quad-on .ensures .0) (q .quad-on2 .ensures .0) _ _ _ _ _ _ (at-passes .passes .ensures) (not-false _ (at-if1 .if1 .left)) (at-passes2 .passes2 .ensures) (not-false _ (at-if2 .if2 .left)) (at-least .least-of .ensures) (at-least2 .least-of2 .ensures) (at-lesser .lesser .ensures) (at-beats .beats .ensures) (c .if3 .taken)
+    first-taken (at-beats .beats .result) _ _ _ (decided-at at-beats) (c .if3 .taken)
 
 returns-4 : tie.Need-returns-4
 returns-4 c =
     let at-beats : tie.After-beats = search in
-    let at-lesser : tie.After-lesser = search in
-    let at-least2 : tie.After-least-of2 = search in
-    let at-least : tie.After-least-of = search in
-    let at-if2 : tie.Else2 = search in
-    let at-passes2 : tie.After-passes2 = search in
-    let at-if1 : tie.Else1 = search in
-    let at-passes : tie.After-passes = search in
-    let q = second-at at-passes in
-    let p = first-at q in
-    let s = start p in
-    unbeaten (s .args .limit) (s .args .points .now) (s .args .nodes .now) (s .args .i) (s .pre .0 .1) (s .args .best) (s .pre .1 .1) _ _ (p .quad-on .ensures .0) (q .quad-on2 .ensures .0) _ _ _ _ _ _ (at-passes .passes .ensures) (not-false _ (at-if1 .if1 .left)) (at-passes2 .passes2 .ensures) (not-false _ (at-if2 .if2 .left)) (at-least .least-of .ensures) (at-least2 .least-of2 .ensures) (at-lesser .lesser .ensures) (at-beats .beats .ensures) (c .if3 .left)
+    second-taken (at-beats .beats .result) _ _ _ (decided-at at-beats) (c .if3 .left)
 
 pub better-split-spec : {M : Type 1} → statement M
 better-split-spec =
