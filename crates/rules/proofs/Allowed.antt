@@ -84,7 +84,7 @@ quads-below p (q ∷ qs) low =
     let h = low 0 (omega arith) in
     rw (lt-leb p (q .a) (h .0), lt-leb p (q .b) (h .1), lt-leb p (q .c) (h .2), lt-leb p (q .d) (h .3)) (quads-below p qs (λ i l. low (suc i) (omega arith)))
 
-fronts-below : (p : ℕ) (fs : List (List ℕ)) → ((a : ℕ) → p ≤ a → occursInAll a fs ≡ 0) → someFrom p (joined fs) ≡ false
+pub fronts-below : (p : ℕ) (fs : List (List ℕ)) → ((a : ℕ) → p ≤ a → occursInAll a fs ≡ 0) → someFrom p (joined fs) ≡ false
 fronts-below p fs low =
     from-none p (joined fs)
     (λ i l.
