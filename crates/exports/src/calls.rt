@@ -6,7 +6,7 @@ ghost use Rattle.state.specs.Call.{lengthsOf};
 ghost use Rattle.input.specs.Job.{job};
 ghost use Rattle.sampling.specs.Sample.{sampleCall};
 ghost use Rattle.rules.specs.RowCall.{rowCall};
-ghost use Rattle.rules.specs.Calls.{closeCall, fanCall};
+ghost use Rattle.rules.specs.Calls.{jobCall, closeCall, fanCall};
 ghost use Rattle.exports.specs.Calls.{jobPassed, optionsOf, passed, statePassed};
 use crate::counts::clear_counts;
 use crate::counts::counts_of;
@@ -68,6 +68,63 @@ pub extern "C" fn pave_sample(
         seam,
     );
     let answer = sampling::sample(
+        coords,
+        loop_lengths,
+        h,
+        options,
+        points,
+        quads,
+        front_nodes,
+        front_lengths,
+    );
+    match answer {
+        Answer::Done(after) => {
+            put_counts(counts, after);
+            0
+        }
+        Answer::Refused(number) => {
+            clear_counts(counts);
+            number
+        }
+    }
+}
+
+// The whole job: sampling, passes of rows, closings; or zeros in every buffer, whatever the buffers held.
+#[no_mangle]
+pub extern "C" fn pave_job(
+    coords: &[f64],
+    loop_lengths: &[u16],
+    h: f64,
+    corner_margin: f64,
+    min_edge_fraction: f64,
+    front_gap: f64,
+    max_row_rounds: u64,
+    seam: bool,
+    points: &mut [f64],
+    quads: &mut [u16],
+    front_nodes: &mut [u16],
+    front_lengths: &mut [u16],
+    counts: &mut [u64],
+) -> u32
+    ensures { λ r. ⌜ passed r (now (points .exit)) (now (quads .exit)) (now («front_nodes» .exit)) (now («front_lengths» .exit)) (now (counts .exit))
+        ≡ jobPassed
+        (jobCall (job (now (coords .entry)) (now («loop_lengths» .entry)) h (optionsOf «corner_margin» «min_edge_fraction» «front_gap» «max_row_rounds» seam))
+        (lengthsOf (length (now (points .entry))) (length (now (quads .entry))) (length (now («front_nodes» .entry))) (length (now («front_lengths» .entry)))))
+        (lengthsOf (length (now (points .entry))) (length (now (quads .entry))) (length (now («front_nodes» .entry))) (length (now («front_lengths» .entry)))) (length (now (counts .entry))) ⌝ }
+{
+    if counts.len() != 8 {
+        state::clear_all(points, quads, front_nodes, front_lengths);
+        clear_counts(counts);
+        return 1;
+    }
+    let options = options_of(
+        corner_margin,
+        min_edge_fraction,
+        front_gap,
+        max_row_rounds,
+        seam,
+    );
+    let answer = job::job(
         coords,
         loop_lengths,
         h,
