@@ -26,8 +26,27 @@ pub fn job(
         ≡ jobCall (inputs.job (now (coords .entry)) (now («loop_lengths» .entry)) h options)
         (lengthsOf (length (now (points .entry))) (length (now (quads .entry))) (length (now («front_nodes» .entry))) (length (now («front_lengths» .entry)))) ⌝ }
 {
-    match sample(coords, loop_lengths, h, options, points, quads, front_nodes, front_lengths) {
+    match sample(
+        coords,
+        loop_lengths,
+        h,
+        options,
+        points,
+        quads,
+        front_nodes,
+        front_lengths,
+    ) {
         Answer::Refused(n) => Answer::Refused(n),
-        Answer::Done(start) => pave(coords, loop_lengths, h, options, points, quads, front_nodes, front_lengths, start),
+        Answer::Done(start) => pave(
+            coords,
+            loop_lengths,
+            h,
+            options,
+            points,
+            quads,
+            front_nodes,
+            front_lengths,
+            start,
+        ),
     }
 }

@@ -25,7 +25,15 @@ pub fn close_job(
         ≡ jobLeft (lengthsOf (length (now (points .entry))) (length (now (quads .entry))) (length (now («front_nodes» .entry))) (length (now («front_lengths» .entry))))
         (closings cornerLimit (reading (held (now (points .entry)) (now (quads .entry)) (now («front_nodes» .entry)) (now («front_lengths» .entry)) counts))) ⌝ }
 {
-    match close_small_fronts(points, quads, front_nodes, front_lengths, counts, corner_limit(), true) {
+    match close_small_fronts(
+        points,
+        quads,
+        front_nodes,
+        front_lengths,
+        counts,
+        corner_limit(),
+        true,
+    ) {
         Answer::Refused(n) => {
             clear_all(points, quads, front_nodes, front_lengths);
             Answer::Refused(n)

@@ -37,7 +37,18 @@ pub fn pave(
         (andThen (somePasses (inputs.job (now (coords .entry)) (now («loop_lengths» .entry)) h options) (options .«max_row_rounds») (reading (held (now (points .entry)) (now (quads .entry)) (now («front_nodes» .entry)) (now («front_lengths» .entry)) counts)))
         (closings cornerLimit)) ⌝ }
 {
-    match some_passes(coords, loop_lengths, h, options, options.max_row_rounds, points, quads, front_nodes, front_lengths, counts) {
+    match some_passes(
+        coords,
+        loop_lengths,
+        h,
+        options,
+        options.max_row_rounds,
+        points,
+        quads,
+        front_nodes,
+        front_lengths,
+        counts,
+    ) {
         Answer::Refused(n) => {
             clear_all(points, quads, front_nodes, front_lengths);
             Answer::Refused(n)
