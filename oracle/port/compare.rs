@@ -5,6 +5,7 @@
 //! compare rows SEED COUNT        a row on each of COUNT states, sound and damaged
 //! compare close SEED COUNT       the closings of COUNT states, sound and damaged
 //! compare fan SEED COUNT         a fan on each of COUNT states, sound and damaged
+//! compare job SEED COUNT         COUNT whole jobs, and a row, the closings and a fan on two states made from each answer
 //!
 //! Every bit of the port's answers and every place of the lent buffers against the Rust's. The exit status is not 0 when
 //! one differs, or when a kind of answer that a call can give did not come up in 10,000 or more; for the closings and the
@@ -54,6 +55,10 @@ fn fan(seed: u64, count: u64) -> bool {
     told(compare::fans(&mut paver::Port, seed, count), &compare::FAN_NUMBERS, &compare::FAN_SEEN, count) & other_counts(seed)
 }
 
+fn job(seed: u64, count: u64) -> bool {
+    told(compare::run(&mut paver::Port, seed, count), &compare::ALL_NUMBERS, &[], count) & other_counts(seed)
+}
+
 fn main() {
     let mut words: Vec<String> = std::env::args().skip(1).collect();
     if words.len() == 2 {
@@ -68,13 +73,14 @@ fn main() {
         "rows" => rows(seed, count),
         "close" => close(seed, count),
         "fan" => fan(seed, count),
-        "all" => [root::run, functions::run, sample, rows, close, fan].into_iter().fold(true, |good, part| part(seed, count) & good),
+        "job" => job(seed, count),
+        "all" => [root::run, functions::run, sample, rows, close, fan, job].into_iter().fold(true, |good, part| part(seed, count) & good),
         _ => stop(),
     };
     exit(if good { 0 } else { 1 })
 }
 
 fn stop() -> ! {
-    eprintln!("compare [root|functions|sample|rows|close|fan] SEED COUNT");
+    eprintln!("compare [root|functions|sample|rows|close|fan|job] SEED COUNT");
     exit(2)
 }

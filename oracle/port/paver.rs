@@ -22,8 +22,10 @@ impl Paver for Port {
         let n = port::row(&port_job(job, &lengths_of(job)), front as u64, b, &mut counts);
         answer(n, counts)
     }
-    fn job(&mut self, _: &Job, _: &mut Buffers) -> (u8, Counts) {
-        unimplemented!("the port has no job call yet")
+    fn job(&mut self, job: &Job, b: &mut Buffers) -> (u8, Counts) {
+        let mut counts = [0x0123_4567_89AB_CDEF; 8];
+        let n = port::job(&port_job(job, &lengths_of(job)), b, &mut counts);
+        answer(n, counts)
     }
     fn close(&mut self, job: &Job, b: &mut Buffers, counts: Counts) -> (u8, Counts) {
         let mut counts = counts.list().map(|n| n as u64);
@@ -37,7 +39,7 @@ impl Paver for Port {
     }
 }
 
-/// Counts of another length than eight are number 1: zeros after a sampling, no change after a row, the closings or a fan.
+/// Counts of another length than eight are number 1: zeros after a sampling or a job, no change after a row, the closings or a fan.
 pub fn other_counts(job: &Job) -> Vec<String> {
     let lengths = lengths_of(job);
     let job = port_job(job, &lengths);
@@ -57,9 +59,13 @@ pub fn other_counts(job: &Job) -> Vec<String> {
                 wrong.push(format!("{what} with {n} counts answers {number}, or changes something"));
             }
         }
-        let number = port::sample(&job, &mut b, &mut counts);
-        if number != 1 || !b.same(&Buffers::new()) || counts != vec![0; n] {
-            wrong.push(format!("a sampling with {n} counts answers {number}, or leaves what was there"));
+        let calls: [(&str, Call); 2] = [("a sampling", port::sample), ("a job", port::job)];
+        for (what, call) in calls {
+            let (mut b, mut counts) = (held.clone(), vec![7; n]);
+            let number = call(&job, &mut b, &mut counts);
+            if number != 1 || !b.same(&Buffers::new()) || counts != vec![0; n] {
+                wrong.push(format!("{what} with {n} counts answers {number}, or leaves what was there"));
+            }
         }
     }
     wrong

@@ -23,6 +23,11 @@ mod calls {
             front_gap: f64, max_row_rounds: u64, seam: bool, points: *mut f64, np: usize, quads: *mut u16, nq: usize,
             front_nodes: *mut u16, nn: usize, front_lengths: *mut u16, nl: usize, counts: *mut u64, nc: usize,
         ) -> u32;
+        pub fn pave_job(
+            coords: *const f64, n: usize, lengths: *const u16, loops: usize, h: f64, corner_margin: f64, min_edge_fraction: f64,
+            front_gap: f64, max_row_rounds: u64, seam: bool, points: *mut f64, np: usize, quads: *mut u16, nq: usize,
+            front_nodes: *mut u16, nn: usize, front_lengths: *mut u16, nl: usize, counts: *mut u64, nc: usize,
+        ) -> u32;
         pub fn pave_row(
             coords: *const f64, n: usize, lengths: *const u16, loops: usize, h: f64, corner_margin: f64, min_edge_fraction: f64,
             front_gap: f64, max_row_rounds: u64, seam: bool, front: u64, points: *mut f64, np: usize, quads: *mut u16, nq: usize,
@@ -134,6 +139,17 @@ pub fn sample(job: &PortJob, b: &mut Buffers, counts: &mut [u64]) -> u32 {
     let o = &job.options;
     unsafe {
         calls::pave_sample(
+            job.coords.as_ptr(), job.coords.len(), job.lengths.as_ptr(), job.lengths.len(), job.h, o.corner_margin, o.min_edge_fraction,
+            o.front_gap, o.max_row_rounds as u64, o.seam, b.points.as_mut_ptr(), b.points.len(), b.quads.as_mut_ptr(), b.quads.len(),
+            b.front_nodes.as_mut_ptr(), b.front_nodes.len(), b.front_lengths.as_mut_ptr(), b.front_lengths.len(), counts.as_mut_ptr(), counts.len(),
+        )
+    }
+}
+
+pub fn job(job: &PortJob, b: &mut Buffers, counts: &mut [u64]) -> u32 {
+    let o = &job.options;
+    unsafe {
+        calls::pave_job(
             job.coords.as_ptr(), job.coords.len(), job.lengths.as_ptr(), job.lengths.len(), job.h, o.corner_margin, o.min_edge_fraction,
             o.front_gap, o.max_row_rounds as u64, o.seam, b.points.as_mut_ptr(), b.points.len(), b.quads.as_mut_ptr(), b.quads.len(),
             b.front_nodes.as_mut_ptr(), b.front_nodes.len(), b.front_lengths.as_mut_ptr(), b.front_lengths.len(), counts.as_mut_ptr(), counts.len(),

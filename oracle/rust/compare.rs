@@ -422,6 +422,9 @@ fn see_fan(report: &mut Report, job: &Job, before: &State, after: &State) {
     assert!(after.buffers.point(before.counts.points) == best.0, "the centre by the single functions is that of the Rust");
 }
 
+/// The numbers that the calls can answer. (A job's own are those of its sampling, and 21.)
+pub const ALL_NUMBERS: [u8; 19] = [0, 1, 2, 3, 4, 5, 6, 7, 8, 9, 10, 20, 21, 22, 23, 24, 25, 26, 27];
+
 /// Jobs 0 to `count` of a seed, and calls on states made from each.
 pub fn run(port: &mut dyn Paver, seed: u64, count: u64) -> Report {
     let mut report = Report::default();

@@ -56,7 +56,7 @@ pub record Demand1 : Type 0 where
 --
 -- Each public call's contract is one equation of its whole answer (number, counts, every place of every buffer) with a definition:
 --   sample with `sampleCall` (crate sampling), row with `rowCall`, job, closing and fan with `jobCall`, `closeCall` and `fanCall`.
--- A call whose code does not stand yet has its definition alone; README.md says which do.
+-- All five stand: `sampling::sample`, `row::row`, `job::job`, `closing::close` and `fan::fan`.
 
 -- ---- demand 3
 
