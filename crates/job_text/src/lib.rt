@@ -1,0 +1,1 @@
+// The text of a job, read into coordinates and loop lengths.
