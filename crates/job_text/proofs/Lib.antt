@@ -1,0 +1,3 @@
+pub mod ReadableNumbers
+pub mod ReadableLines
+pub mod Readable
