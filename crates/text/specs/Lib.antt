@@ -1,2 +1,4 @@
 pub mod Decimal
 pub mod Fields
+pub mod Hex
+pub mod Putting
