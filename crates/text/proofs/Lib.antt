@@ -1,0 +1,4 @@
+pub mod FieldLaws
+pub mod Spelling
+pub mod Midst
+pub mod Digits

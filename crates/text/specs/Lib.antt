@@ -1,2 +1,5 @@
 pub mod Decimal
 pub mod Fields
+pub mod Number
+pub mod Hex
+pub mod Putting
