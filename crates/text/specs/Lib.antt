@@ -3,3 +3,4 @@ pub mod Fields
 pub mod Number
 pub mod Hex
 pub mod Putting
+pub mod Words

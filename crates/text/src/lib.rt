@@ -6,6 +6,7 @@ pub use fields::begins_with;
 pub use fields::field_end;
 pub use numbers::Number;
 pub use numbers::natural;
+
 mod putting;
 
 pub use putting::bits_of;

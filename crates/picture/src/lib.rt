@@ -1,0 +1,1 @@
+// A job's text, paved and drawn as SVG.
