@@ -1,5 +1,6 @@
 -- The text of a state in four pieces, as the code puts it, and that every text fits.
-use mathlib.Core.Path.{_≡_, ap}
+use mathlib.Core.Path.{_≡_, refl, ap}
+use mathlib.Core.Bool.{false}
 use mathlib.Core.List.{List, [], _∷_, _++_, map, append-assoc}
 use Prim.Native.Nat.{ℕ, _+_, _*_, _≤_}
 use native.Mathlib.Omega.{arith}
@@ -11,12 +12,14 @@ use Rattle.state.specs.State.{Held, quadNodes, quadsOf, cut, countsOf, reading}
 use Rattle.state.specs.declared.Counts.{Counts}
 use Rattle.state.specs.declared.Answer.{Answer}
 use Rattle.state.specs.declared.Answer.the-variants.{Done, Refused}
-use Rattle.state.specs.State.{noCounts}
-use Rattle.state.specs.Call.{held, left}
+use Rattle.state.specs.State.{lengths, noCounts}
+use Rattle.state.specs.Given.{wrongState}
+use Rattle.state.specs.Call.{Left, answerNumber, numberOf, held, left, lengthsOf}
 use Rattle.state.specs.Sound.{Sound, sizesOf}
 use Rattle.state.proofs.Reading.{Counted, sound-counted, sizes-long, nodes-read, quads-read, fronts-read}
+use Rattle.state.proofs.Sounding.{sound as not-refused}
 use Rattle.answer_text.specs.AnswerText.{lf, numbersText, lineText, linesText, pointsText, countNumbers, stateText, refusedText, answerText}
-use Rattle.answer_text.specs.Fits.{textLimit, SoundAnswer}
+use Rattle.answer_text.specs.Fits.{textLimit, SoundHeld, SoundAnswer}
 use Rattle.answer_text.proofs.LineLaws.{numbers-append}
 use Rattle.answer_text.proofs.Lengths.{Nodes, any-numbers, line-length, points-length, quads-length, fronts-length}
 
@@ -87,3 +90,11 @@ module _ (a : Answer) (p : List Float) (q n l : List ℕ) where
   pub refused-text : (k : ℕ) → a ≡ Refused k → refusedText k ≡ answerText (left a (held p q n l noCounts))
   unfolding answerText
   refused-text k e = rw e
+
+-- an answer whose buffers have document 01's lengths and are not refused with 25, as a job's are (demand `acceptedBack`)
+pub sound-answer : (x : Left) → lengths (x .held) ≡ lengthsOf 8192 16384 2048 16 → (numberOf x ≡ 0 → wrongState (x .held) ≡ false) → SoundAnswer x
+sound-answer x long back = go (x .answer) (x .held) long back
+  where
+    go : (a : Answer) (b : Held) → lengths b ≡ lengthsOf 8192 16384 2048 16 → (answerNumber a ≡ 0 → wrongState b ≡ false) → SoundHeld a b
+    go (Done c) b l f = not-refused b l (f refl)
+    go (Refused n) b l f = tt

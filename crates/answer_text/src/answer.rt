@@ -62,6 +62,7 @@ pub fn put_state(
     requires { ⌜ textLimit ≤ length (now out) ⌝ }
     requires { ⌜ Sound (held (now points) (now quads) (now «front_nodes») (now «front_lengths») counts) ⌝ }
     ensures { λ r. ⌜ Put (now (out .entry)) 0 (stateText (reading (held (now (points .entry)) (now (quads .entry)) (now («front_nodes» .entry)) (now («front_lengths» .entry)) counts))) (now (out .exit)) r ⌝ }
+    ensures { λ r. ⌜ r ≤ textLimit ⌝ }
 {
     let coords = counts.points * 2;
     let fronts = counts.fronts;
@@ -74,6 +75,7 @@ pub fn put_state(
 pub fn put_refused(out: &mut [u8], number: u32) -> usize
     requires { ⌜ textLimit ≤ length (now out) ⌝ }
     ensures { λ r. ⌜ Put (now (out .entry)) 0 (refusedText number) (now (out .exit)) r ⌝ }
+    ensures { λ r. ⌜ r ≤ textLimit ⌝ }
 {
     let first = put_bytes(out, 0, b"refused");
     let end = put_number(out, first, number as u64);
@@ -91,6 +93,7 @@ pub fn put_answer(
     requires { ⌜ textLimit ≤ length (now out) ⌝ }
     requires { ⌜ SoundAnswer (left answer (held (now points) (now quads) (now «front_nodes») (now «front_lengths») noCounts)) ⌝ }
     ensures { λ r. ⌜ Put (now (out .entry)) 0 (answerText (left answer (held (now (points .entry)) (now (quads .entry)) (now («front_nodes» .entry)) (now («front_lengths» .entry)) noCounts))) (now (out .exit)) r ⌝ }
+    ensures { λ r. ⌜ r ≤ textLimit ⌝ }
 {
     match answer {
         Answer::Done(counts) => put_state(out, points, quads, front_nodes, front_lengths, counts),

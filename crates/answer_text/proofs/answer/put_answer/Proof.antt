@@ -29,7 +29,7 @@ returns c =
     let done : tie.After-answer = search in
     let text : tie.After-put-state = search in
     let a = entry .args in
-    rw (done-text (a .answer) (a .points .now) (a .quads .now) (a .front-nodes .now) (a .front-lengths .now) (done .answer .given .0 .0) (done .answer .given .1)) at (text .put-state .ensures)
+    (rw (done-text (a .answer) (a .points .now) (a .quads .now) (a .front-nodes .now) (a .front-lengths .now) (done .answer .given .0 .0) (done .answer .given .1)) at (text .put-state .ensures .0), text .put-state .ensures .1)
 
 same-length-2 : tie.Need-same-length-2
 same-length-2 c = search needs
@@ -40,7 +40,7 @@ returns-2 c =
     let refused : tie.After-answer2 = search in
     let text : tie.After-put-refused = search in
     let a = entry .args in
-    rw (refused-text (a .answer) (a .points .now) (a .quads .now) (a .front-nodes .now) (a .front-lengths .now) (refused .answer2 .given .0 .0) (refused .answer2 .given .1)) at (text .put-refused .ensures)
+    (rw (refused-text (a .answer) (a .points .now) (a .quads .now) (a .front-nodes .now) (a .front-lengths .now) (refused .answer2 .given .0 .0) (refused .answer2 .given .1)) at (text .put-refused .ensures .0), text .put-refused .ensures .1)
 
 pub put-answer-spec : {M : Type 1} → statement M
 put-answer-spec =

@@ -54,7 +54,8 @@ returns c =
     let begun : tie.After-put-bytes = search in
     let number : tie.After-put-number = search in
     let end : tie.After-put-byte = search in
-    last (more (more (first entry) (begun .put-bytes .ensures)) (number .put-number .ensures)) (end .put-byte .ensures)
+    let whole = last (more (more (first entry) (begun .put-bytes .ensures)) (number .put-number .ensures)) (end .put-byte .ensures) in
+    (whole, (let h = refused-fits (entry .args .number) in let p = whole .place in omega arith))
 
 pub put-refused-spec : {M : Type 1} → statement M
 put-refused-spec =

@@ -1,8 +1,10 @@
 -- `answer_text::answer::put_state` meets its contract. The counts, the points, the quads, the fronts.
 use mathlib.Core.Path.{sym}
 use mathlib.Core.List.{_++_}
+use Prim.Native.Nat.{_≤_}
 use native.Mathlib.Omega.{arith}
 use borrow.Author.Needs.{needs}
+use lib.ListN.{length}
 use lib.Seq.{length-take-le}
 use Rattle.state.specs.State.{Held, reading}
 use Rattle.state.specs.Call.{held}
@@ -10,7 +12,7 @@ use Rattle.state.specs.Sound.{Sound}
 use Rattle.text.specs.Putting.{Room}
 use Rattle.text.proofs.Midst.{Midst, begin, more, room, room-last, last, same-rest}
 use Rattle.answer_text.specs.AnswerText.{stateText}
-use Rattle.answer_text.proofs.Lengths.{Nodes}
+use Rattle.answer_text.specs.Fits.{textLimit}
 use Rattle.answer_text.proofs.Pieces.{countsLine, points, quads, fronts, pieces, state-fits}
 use Rattle.answer_text.proofs.answer.put_state.Statement.{statement}
 use Rattle.answer_text.proofs.answer.put_state.Tie as tie
@@ -27,15 +29,15 @@ first : (s : tie.Start) → Midst (s .args .out .now) 0 (stateText (reading (giv
     (countsLine (given s) (sound s) ++ (points (given s) (sound s) ++ (quads (given s) (sound s) ++ fronts (given s) (sound s))))
 first s = same-rest (pieces (given s) (sound s)) (begin (s .args .out .now) 0 (stateText (reading (given s))))
 
--- every number in the buffers of nodes is a u16, so the text fits
-fits : (s : tie.Start) → Nodes (s .args .quads .now) → Nodes (s .args .front-nodes .now) → Room (s .args .out .now) 0 (stateText (reading (given s)))
-fits s hq hn = let h = state-fits (given s) (sound s) hq hn in let g = s .pre .0 in omega arith
-
-room-for : (c : tie.After-shared-slice-known3) → Room (c .before .before .before .before .args .out .now) 0 (stateText (reading (given (c .before .before .before .before))))
-room-for c =
+-- every number in the buffers of nodes is a u16, so the text is short
+short : (c : tie.After-shared-slice-known3) → length (stateText (reading (given (c .before .before .before .before)))) ≤ textLimit
+short c =
     let entry : tie.Start = search in
     let quads : tie.After-shared-slice-known2 = search in
-    fits entry (λ i. omega (arith, quads .shared-slice-known2 .given i)) (λ i. omega (arith, c .shared-slice-known3 .given i))
+    state-fits (given entry) (sound entry) (λ i. omega (arith, quads .shared-slice-known2 .given i)) (λ i. omega (arith, c .shared-slice-known3 .given i))
+
+room-for : (c : tie.After-shared-slice-known3) → Room (c .before .before .before .before .args .out .now) 0 (stateText (reading (given (c .before .before .before .before))))
+room-for c = let h = short c in let entry : tie.Start = search in let g = entry .pre .0 in omega arith
 
 -- the places before the points and before the counts
 abbrev counts-at : tie.After-put-points → tie.After-put-counts
@@ -109,11 +111,12 @@ same-length c = search needs
 returns : tie.Need-returns
 returns c =
     let entry : tie.Start = search in
-    let counts : tie.After-put-counts = search in
-    let laid : tie.After-put-points = search in
-    let paved : tie.After-put-quads = search in
     let end : tie.After-put-fronts = search in
-    last (more (more (more (first entry) (counts .put-counts .ensures)) (laid .put-points .ensures)) (paved .put-quads .ensures)) (end .put-fronts .ensures)
+    let paved : tie.After-put-quads = search in
+    let laid : tie.After-put-points = search in
+    let counts = counts-at laid in
+    let whole = last (more (more (more (first entry) (counts .put-counts .ensures)) (laid .put-points .ensures)) (paved .put-quads .ensures)) (end .put-fronts .ensures) in
+    (whole, (let h = short (known-at counts) in let p = whole .place in omega arith))
 
 pub put-state-spec : {M : Type 1} → statement M
 put-state-spec =
