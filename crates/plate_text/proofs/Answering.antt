@@ -5,21 +5,26 @@ use mathlib.Core.List.{List, [], _∷_}
 use Prim.Native.Nat.{ℕ, _/_, _<_, _≤_}
 use native.Mathlib.Omega.{arith}
 use lib.Dec.{eqb, ltb}
+use lib.Ieee.{Float}
 use lib.ListN.{length}
 use borrow.Author.Tests.{lt-ltb}
+use Rattle.state.specs.declared.Counts.{Counts}
 use Rattle.state.specs.declared.Answer.{Answer}
 use Rattle.state.specs.declared.Answer.the-variants.{Done, Refused}
 use Rattle.state.specs.State.{Held, Lengths, State, lengths, zeros}
 use Rattle.state.specs.Outcome.{Outcome, refused, gives, firstOf, test}
-use Rattle.state.specs.Call.{Left, lengthsOf, numberOf, jobLeft}
-use Rattle.state.specs.Sound.{Sound}
+use Rattle.state.specs.Call.{Left, held, lengthsOf, numberOf, jobLeft}
 use Rattle.state.specs.Given.{wrongState}
-use Rattle.state.proofs.Sounding.{sound}
-use Rattle.input.specs.Job.{Job, wrongShape, inputNumber, loopLimit, pairLimit}
+use Rattle.input.specs.declared.Options.{Options}
+use Rattle.input.specs.Defaults.{defaults}
+use Rattle.input.specs.Job.{Job, job, wrongShape, inputNumber, loopLimit, pairLimit}
 use Rattle.sampling.specs.Sample.{onJob}
 use Rattle.rules.specs.Calls.{jobCall, paved}
 use Rattle.rules.proofs.Demands as demands
+use Rattle.text.specs.Putting.{Put}
 use Rattle.answer_text.specs.AnswerText.{answerText, refusedText}
+use Rattle.answer_text.specs.Fits.{SoundAnswer}
+use Rattle.answer_text.proofs.Pieces.{sound-answer}
 use Rattle.plate_text.specs.PaveText.{lent}
 
 -- ---- too many
@@ -45,9 +50,20 @@ pub refused-1 : (j : Job) (l : Lengths) → inputNumber j l ≡ 1 → answerText
 unfolding jobCall onJob jobLeft answerText
 refused-1 j l h = rw h
 
--- ---- what an accepted job left
+-- ---- the answer of a job in the lent buffers
 
-pub done-sound : (j : Job) (x : Left) → x ≡ jobCall j lent → numberOf x ≡ 0 → lengths (x .held) ≡ lent → Sound (x .held)
-done-sound j x e n l =
-    let g : wrongState (jobCall j lent .held) ≡ false = demands.demand-3 .acceptedBack j lent (ap numberOf (sym e) ∙ n) in
-    sound (x .held) l (rw e g)
+-- it is that of the definition, and sound
+module _ (x : Left) (coords : List Float) (loops : List ℕ) (h : Float) (o : Options) (p q n l : ℕ) (call : x ≡ jobCall (job coords loops h o) (lengthsOf p q n l)) where
+  pub answer-is : o ≡ defaults → p ≡ 8192 → q ≡ 16384 → n ≡ 2048 → l ≡ 16 → x ≡ jobCall (job coords loops h defaults) lent
+  answer-is d e f g k = call ∙ rw (d, e, f, g, k)
+
+  pub answer-sound : lengths (x .held) ≡ lent → SoundAnswer x
+  answer-sound e =
+      sound-answer x e
+      (λ (z : numberOf x ≡ 0). ap (λ (y : Left). wrongState (y .held)) call ∙ demands.demand-3 .acceptedBack (job coords loops h o) (lengthsOf p q n l) (ap numberOf (sym call) ∙ z))
+
+pub long : (p : List Float) (q n l : List ℕ) (c : Counts) → length p ≡ 8192 → length q ≡ 16384 → length n ≡ 2048 → length l ≡ 16 → lengths (held p q n l c) ≡ lent
+long p q n l c e f g h = rw (e, f, g, h)
+
+pub put-same : {before after text other : List ℕ} {at next : ℕ} → text ≡ other → Put before at text after next → Put before at other after next
+put-same e w = rw (← e) w
