@@ -51,8 +51,8 @@ fn put_line(out: &mut [u8], at: usize, letter: u8, nodes: &[u16]) -> usize
     ensures { λ r. ⌜ Put (now (out .entry)) at (lineText (letter ∷ []) (now (nodes .entry))) (now (out .exit)) r ⌝ }
 {
     let first = put_byte(out, at, letter);
-    let end = put_nodes(out, first, nodes);
-    put_byte(out, end, b'\n')
+    let last = put_nodes(out, first, nodes);
+    put_byte(out, last, b'\n')
 }
 
 fn put_point(out: &mut [u8], at: usize, x: f64, y: f64) -> usize
