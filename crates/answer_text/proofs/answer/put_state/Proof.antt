@@ -37,7 +37,7 @@ short c =
     state-fits (given entry) (sound entry) (λ i. omega (arith, quads .shared-slice-known2 .given i)) (λ i. omega (arith, c .shared-slice-known3 .given i))
 
 room-for : (c : tie.After-shared-slice-known3) → Room (c .before .before .before .before .args .out .now) 0 (stateText (reading (given (c .before .before .before .before))))
-room-for c = let s = c .before .before .before .before in room-within (s .args .out .now) (stateText (reading (given s))) textLimit (short c) (s .pre .0)
+room-for c = let s : tie.Start = search in room-within (s .args .out .now) (stateText (reading (given s))) textLimit (short c) (s .pre .0)
 
 -- the places before the points and before the counts
 abbrev counts-at : tie.After-put-points → tie.After-put-counts
