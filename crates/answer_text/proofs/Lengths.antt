@@ -1,18 +1,17 @@
 -- How long the lines of an answer can be.
-use mathlib.Core.Path.{_≡_, refl, sym, _∙_, ap}
+use mathlib.Core.Path.{_≡_, _∙_}
 use mathlib.Core.List.{List, [], _∷_, _++_, map}
 use Prim.Native.Nat.{ℕ, zero, suc, _+_, _*_, _<_, _≤_}
 use native.Mathlib.Omega.{arith}
 use lib.Ieee.{Float, binary64, toBits}
-use lib.ListN.{length, getD, take, drop, length-append, length-take}
+use lib.ListN.{length, getD, take, drop, length-append}
 use lib.Seq.{getD-drop}
 use Rattle.geometry.specs.Domain.{sumOf}
-use Rattle.state.specs.declared.Counts.{Counts}
 use Rattle.state.specs.State.{quadNodes, quadsOf, cut}
 use Rattle.text.specs.Decimal.{decimalText}
 use Rattle.text.specs.Hex.{bitsText}
 use Rattle.text.proofs.Digits.{length-at-most, length-below, length-hex}
-use Rattle.answer_text.specs.AnswerText.{tab, lf, numbersText, lineText, linesText, pointText, pointsText, countNumbers}
+use Rattle.answer_text.specs.AnswerText.{tab, lf, numbersText, lineText, linesText, pointText, pointsText}
 
 -- every number of a list is a u16
 abbrev pub Nodes : List ℕ → Type 0

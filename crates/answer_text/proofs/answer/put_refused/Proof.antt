@@ -2,13 +2,13 @@
 use mathlib.Core.Path.{_≡_, ap}
 use mathlib.Core.List.{List, [], _∷_, _++_, append-nil}
 use Prim.Native.Nat.{ℕ}
-use native.Mathlib.Omega.{arith}
 use borrow.Author.Needs.{needs}
 use Rattle.text.specs.Decimal.{decimalText}
 use Rattle.text.specs.Putting.{Room}
 use Rattle.text.proofs.Midst.{Midst, begin, more, room, room-last, last, same-rest}
 use Rattle.answer_text.specs.AnswerText.{tab, lf, numbersText, refusedText}
-use Rattle.answer_text.proofs.Pieces.{refused-fits}
+use Rattle.answer_text.specs.Fits.{textLimit}
+use Rattle.answer_text.proofs.Pieces.{refused-fits, place-within, room-within}
 use Rattle.answer_text.proofs.answer.put_refused.Statement.{statement}
 use Rattle.answer_text.proofs.answer.put_refused.Tie as tie
 
@@ -24,7 +24,7 @@ first : (s : tie.Start) → Midst (s .args .out .now) 0 (refusedText (s .args .n
 first s = same-rest (three (s .args .number)) (begin (s .args .out .now) 0 (refusedText (s .args .number)))
 
 fits : (s : tie.Start) → Room (s .args .out .now) 0 (refusedText (s .args .number))
-fits s = let h = refused-fits (s .args .number) in let g = s .pre in omega arith
+fits s = room-within (s .args .out .now) (refusedText (s .args .number)) textLimit (refused-fits (s .args .number)) (s .pre)
 
 slice-aggregate-put-bytes : tie.Need-slice-aggregate-put-bytes
 slice-aggregate-put-bytes c = search needs
@@ -55,7 +55,7 @@ returns c =
     let number : tie.After-put-number = search in
     let end : tie.After-put-byte = search in
     let whole = last (more (more (first entry) (begun .put-bytes .ensures)) (number .put-number .ensures)) (end .put-byte .ensures) in
-    (whole, (let h = refused-fits (entry .args .number) in let p = whole .place in omega arith))
+    (whole, place-within textLimit whole (refused-fits (entry .args .number)))
 
 pub put-refused-spec : {M : Type 1} → statement M
 put-refused-spec =

@@ -5,15 +5,15 @@ use Prim.Native.Nat.{_≤_}
 use native.Mathlib.Omega.{arith}
 use borrow.Author.Needs.{needs}
 use lib.ListN.{length}
-use lib.Seq.{length-take-le}
 use Rattle.state.specs.State.{Held, reading}
 use Rattle.state.specs.Call.{held}
 use Rattle.state.specs.Sound.{Sound}
+use Rattle.state.proofs.Reading.{sound-counted, points-long, sizes-long, fits}
 use Rattle.text.specs.Putting.{Room}
 use Rattle.text.proofs.Midst.{Midst, begin, more, room, room-last, last, same-rest}
 use Rattle.answer_text.specs.AnswerText.{stateText}
 use Rattle.answer_text.specs.Fits.{textLimit}
-use Rattle.answer_text.proofs.Pieces.{countsLine, points, quads, fronts, pieces, state-fits}
+use Rattle.answer_text.proofs.Pieces.{countsLine, points, quads, fronts, pieces, quads-within, state-fits, place-within, room-within}
 use Rattle.answer_text.proofs.answer.put_state.Statement.{statement}
 use Rattle.answer_text.proofs.answer.put_state.Tie as tie
 
@@ -37,7 +37,7 @@ short c =
     state-fits (given entry) (sound entry) (λ i. omega (arith, quads .shared-slice-known2 .given i)) (λ i. omega (arith, c .shared-slice-known3 .given i))
 
 room-for : (c : tie.After-shared-slice-known3) → Room (c .before .before .before .before .args .out .now) 0 (stateText (reading (given (c .before .before .before .before))))
-room-for c = let h = short c in let entry : tie.Start = search in let g = entry .pre .0 in omega arith
+room-for c = let s : tie.Start = search in room-within (s .args .out .now) (stateText (reading (given s))) textLimit (short c) (s .pre .0)
 
 -- the places before the points and before the counts
 abbrev counts-at : tie.After-put-points → tie.After-put-counts
@@ -60,9 +60,7 @@ put-counts-requires c κs =
 slice-aggregate-put-points : tie.Need-slice-aggregate-put-points
 slice-aggregate-put-points c =
     let entry : tie.Start = search in
-    let s = sound entry .points in
-    let l = sound entry .pointsLong in
-    sym (length-take-le _ (entry .args .points .now) (omega arith))
+    sym (points-long (given entry) (sound-counted (given entry) (sound entry)))
 
 put-points-requires : tie.Need-put-points-requires
 put-points-requires c κs =
@@ -81,16 +79,12 @@ put-quads-requires c κs =
     let laid : tie.After-put-points = search in
     let b = given entry in
     let h = sound entry in
-    let n = h .quads in
-    let l = h .quadsLong in
-    (room (quads b h) (fronts b h) (more (more (first entry) (counts .put-counts .ensures)) (laid .put-points .ensures)) (room-for known), omega arith)
+    (room (quads b h) (fronts b h) (more (more (first entry) (counts .put-counts .ensures)) (laid .put-points .ensures)) (room-for known), quads-within b h)
 
 slice-aggregate-put-fronts : tie.Need-slice-aggregate-put-fronts
 slice-aggregate-put-fronts c =
     let entry : tie.Start = search in
-    let s = sound entry .fronts in
-    let l = sound entry .frontLengthsLong in
-    sym (length-take-le _ (entry .args .front-lengths .now) (omega arith))
+    sym (sizes-long (given entry) (sound-counted (given entry) (sound entry)))
 
 put-fronts-requires : tie.Need-put-fronts-requires
 put-fronts-requires c κs =
@@ -101,9 +95,7 @@ put-fronts-requires c κs =
     let known = known-at counts in
     let b = given entry in
     let h = sound entry in
-    let n = h .frontNodes in
-    let l = h .frontNodesLong in
-    (room-last (fronts b h) (more (more (more (first entry) (counts .put-counts .ensures)) (laid .put-points .ensures)) (paved .put-quads .ensures)) (room-for known), omega arith)
+    (room-last (fronts b h) (more (more (more (first entry) (counts .put-counts .ensures)) (laid .put-points .ensures)) (paved .put-quads .ensures)) (room-for known), fits b (sound-counted b h))
 
 same-length : tie.Need-same-length
 same-length c = search needs
@@ -116,7 +108,7 @@ returns c =
     let laid : tie.After-put-points = search in
     let counts = counts-at laid in
     let whole = last (more (more (more (first entry) (counts .put-counts .ensures)) (laid .put-points .ensures)) (paved .put-quads .ensures)) (end .put-fronts .ensures) in
-    (whole, (let h = short (known-at counts) in let p = whole .place in omega arith))
+    (whole, place-within textLimit whole (short (known-at counts)))
 
 pub put-state-spec : {M : Type 1} → statement M
 put-state-spec =

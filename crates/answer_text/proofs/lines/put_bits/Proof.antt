@@ -2,7 +2,7 @@
 use mathlib.Core.List.{_∷_}
 use borrow.Author.Needs.{needs}
 use Rattle.text.specs.Hex.{bitsText}
-use Rattle.text.proofs.Midst.{Midst, begin, more, room-last, last}
+use Rattle.text.proofs.Midst.{begin, more, room-last, last}
 use Rattle.answer_text.specs.AnswerText.{tab}
 use Rattle.answer_text.proofs.lines.put_bits.Statement.{statement}
 use Rattle.answer_text.proofs.lines.put_bits.Tie as tie

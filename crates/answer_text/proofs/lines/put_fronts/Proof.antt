@@ -32,12 +32,17 @@ shared-slice-read-wide c = omega arith
 wide-requires : tie.Need-wide-requires Inv-loop μ-loop
 wide-requires c κs = search needs
 
+abbrev start-of : tie.After-wide Inv-loop μ-loop → tie.Start Inv-loop μ-loop
+start-of c = c .before .before .before .before .before .before .before
+
+abbrev turn-of : tie.After-wide Inv-loop μ-loop → tie.At-loop Inv-loop μ-loop
+turn-of c = c .before .before .before
+
 -- the front's nodes are within those left
-within : (c : tie.After-wide Inv-loop μ-loop) → c .before .before .before .loop .start + c .wide .result ≤ length (c .before .before .before .before .before .before .before .args .nodes .now)
+within : (c : tie.After-wide Inv-loop μ-loop) → turn-of c .loop .start + c .wide .result ≤ length (start-of c .args .nodes .now)
 within c =
-    let entry : tie.Start Inv-loop μ-loop = search in
-    let turn : tie.At-loop Inv-loop μ-loop = search in
-    let left = nodes-next (entry .args .lengths .now) (turn .loop .i) (c .wide .result) (omega arith) (c .wide .ensures) in
+    let turn = turn-of c in
+    let left = nodes-next (start-of c .args .lengths .now) (turn .loop .i) (c .wide .result) (omega arith) (c .wide .ensures) in
     omega arith
 
 add-end : tie.Need-add-end Inv-loop μ-loop

@@ -1,5 +1,5 @@
 -- `answer_text::lines::put_line` meets its contract. The letter, the numbers, the LF.
-use mathlib.Core.List.{[], _∷_, _++_}
+use mathlib.Core.List.{[], _∷_}
 use borrow.Author.Needs.{needs}
 use Rattle.text.proofs.Midst.{begin, more, room, room-last, last}
 use Rattle.answer_text.specs.AnswerText.{lf, numbersText, lineText}

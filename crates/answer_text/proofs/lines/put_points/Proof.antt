@@ -1,7 +1,6 @@
 -- `answer_text::lines::put_points` meets its contract. The invariant: the points from i on are left. The measure is their number.
 use Prim.Native.Nat.{_+_, _-_, _*_, _/_, _≤_}
 use native.Mathlib.Omega.{arith}
-use borrow.Author.Needs.{needs}
 use borrow.Author.Needs.{scaled-fits}
 use lib.Ieee.{nan}
 use lib.ListN.{length, getD, drop}

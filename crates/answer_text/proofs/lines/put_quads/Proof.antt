@@ -2,7 +2,6 @@
 use mathlib.Core.List.{[], _∷_, map}
 use Prim.Native.Nat.{_+_, _-_, _*_, _≤_}
 use native.Mathlib.Omega.{arith}
-use borrow.Author.Needs.{needs}
 use borrow.Author.Needs.{scaled-fits}
 use lib.ListN.{length, take, drop}
 use Rattle.state.specs.State.{quadNodes, quadsOf}
