@@ -7,53 +7,37 @@ use Rattle.answer_text.specs.AnswerText.{answerText}
 use Rattle.plate_text.proofs.Answering.{answer-is, answer-sound, long, put-same}
 use Rattle.plate_text.proofs.put_job.Statement.{statement}
 use Rattle.plate_text.proofs.put_job.Tie as tie
-use Rattle.plate_text.proofs.put_job.Reads as reads
-use Rattle.plate_text.proofs.put_job.Lts as lts
-use Rattle.answer_text.proofs.put_answer.Reads as put-answer-reads
-use Rattle.input.proofs.defaults.Reads as defaults-reads
-use Rattle.job.proofs.job.Reads as job-reads
 
--- src/lib.rt:26:9
 defaults-requires : tie.Need-defaults-requires
 defaults-requires c κs = search needs
 
--- src/lib.rt:27:9
 slice-aggregate-job : tie.Need-slice-aggregate-job
 slice-aggregate-job c = search needs
 
--- src/lib.rt:28:9
 slice-aggregate-job-2 : tie.Need-slice-aggregate-job-2
 slice-aggregate-job-2 c = search needs
 
--- src/lib.rt:29:9
 slice-aggregate-job-3 : tie.Need-slice-aggregate-job-3
 slice-aggregate-job-3 c = search needs
 
--- src/lib.rt:30:9
 slice-aggregate-job-4 : tie.Need-slice-aggregate-job-4
 slice-aggregate-job-4 c = search needs
 
--- src/lib.rt:22:9
 job-requires : tie.Need-job-requires
 job-requires c κs = search needs
 
--- src/lib.rt:35:9
 slice-aggregate-put-answer : tie.Need-slice-aggregate-put-answer
 slice-aggregate-put-answer c = search needs
 
--- src/lib.rt:36:9
 slice-aggregate-put-answer-2 : tie.Need-slice-aggregate-put-answer-2
 slice-aggregate-put-answer-2 c = search needs
 
--- src/lib.rt:37:9
 slice-aggregate-put-answer-3 : tie.Need-slice-aggregate-put-answer-3
 slice-aggregate-put-answer-3 c = search needs
 
--- src/lib.rt:38:9
 slice-aggregate-put-answer-4 : tie.Need-slice-aggregate-put-answer-4
 slice-aggregate-put-answer-4 c = search needs
 
--- src/lib.rt:32:5
 put-answer-requires : tie.Need-put-answer-requires
 put-answer-requires c κs =
     let at-job : tie.After-job = search in
@@ -62,11 +46,9 @@ put-answer-requires c κs =
     answer-sound _ _ _ _ _ _ _ _ _ (at-job .job .ensures)
     (long (last .1 .1 .1 .1 .0) (last .1 .1 .1 .1 .1 .0) (last .1 .1 .1 .1 .1 .1 .0) (last .1 .1 .1 .1 .1 .1 .1 .0) (answerCounts noCounts (at-job .job .result)) (search needs) (search needs) (search needs) (search needs)))
 
--- src/lib.rt:14:1
 same-length : tie.Need-same-length
 same-length c = search needs
 
--- src/lib.rt:14:1
 returns : tie.Need-returns
 returns c =
     let at-put : tie.After-put-answer = search in

@@ -3,54 +3,40 @@ use native.Mathlib.Omega.{arith}
 use Rattle.standard.proofs.Pieces.{below, grown}
 use Rattle.standard.proofs.read_behind.Statement.{statement}
 use Rattle.standard.proofs.read_behind.Tie as tie
-use Rattle.standard.proofs.read_behind.Reads as reads
-use Rattle.standard.proofs.read_behind.Lts as lts
-use Rattle.standard.proofs.read_piece.Reads as read-piece-reads
 
--- src/lib.rt:31:38
 sub-read-piece : tie.Need-sub-read-piece
 sub-read-piece c = search needs
 
--- src/lib.rt:31:38
 part-read-piece-start : tie.Need-part-read-piece-start
 part-read-piece-start c = search needs
 
--- src/lib.rt:31:38
 part-read-piece-end : tie.Need-part-read-piece-end
 part-read-piece-end c = search needs
 
--- src/lib.rt:31:27
 read-piece-requires : tie.Need-read-piece-requires
 read-piece-requires c κs = search needs
 
--- src/lib.rt:31:22
 enum-known-n : tie.Need-enum-known-n
 enum-known-n c = search needs
 
--- src/lib.rt:32:9
 enum-told : tie.Need-enum-told
 enum-told c = search needs
 
--- src/lib.rt:32:9
 same-length : tie.Need-same-length
 same-length c = search needs
 
--- src/lib.rt:32:9
 returns : tie.Need-returns
 returns c = search needs
 
--- src/lib.rt:34:18
 add-t6 : tie.Need-add-t6
 add-t6 c =
     let entry : tie.Start = search in
     let at-read : tie.After-read-piece = search in
     let b = below _ _ _ (entry .args .buf .now) (at-read .read-piece .last .0) (entry .pre) (at-read .read-piece .ensures) (c .before .n .given .1) in omega arith
 
--- src/lib.rt:27:1
 same-length-2 : tie.Need-same-length-2
 same-length-2 c = search needs
 
--- src/lib.rt:27:1
 returns-2 : tie.Need-returns-2
 returns-2 c =
     let entry : tie.Start = search in

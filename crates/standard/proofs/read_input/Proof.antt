@@ -6,9 +6,6 @@ use borrow.Author.Needs.{needs}
 use Rattle.standard.proofs.Pieces.{came}
 use Rattle.standard.proofs.read_input.Statement.{statement}
 use Rattle.standard.proofs.read_input.Tie as tie
-use Rattle.standard.proofs.read_input.Reads as reads
-use Rattle.standard.proofs.read_input.Lts as lts
-use Rattle.standard.proofs.read_behind.Reads as read-behind-reads
 
 abbrev Inv-loop : tie.InvT-loop
 Inv-loop buf₀ done₀ buf done = (length buf ≡ length buf₀) × (done ≤ length buf)
@@ -16,57 +13,45 @@ Inv-loop buf₀ done₀ buf done = (length buf ≡ length buf₀) × (done ≤ l
 abbrev μ-loop : tie.MeasureT-loop
 μ-loop buf₀ done₀ buf done = length buf - done
 
--- src/lib.rt:42:5
 loop-holds : tie.Need-loop-holds Inv-loop μ-loop
 loop-holds c = search needs
 
--- src/lib.rt:43:34
 read-behind-requires : tie.Need-read-behind-requires Inv-loop μ-loop
 read-behind-requires c κs = search needs
 
--- src/lib.rt:43:26
 enum-known-more : tie.Need-enum-known-more Inv-loop μ-loop
 enum-known-more c = search needs
 
--- src/lib.rt:44:13
 enum-told : tie.Need-enum-told Inv-loop μ-loop
 enum-told c = search needs
 
--- src/lib.rt:44:13
 same-length : tie.Need-same-length Inv-loop μ-loop
 same-length c =
     let at-read : tie.After-read-behind Inv-loop μ-loop = search in
     at-read .read-behind .ensures .0 ∙ c .before .before .before .before .before .before .before .loop .inv .0
 
--- src/lib.rt:44:13
 returns : tie.Need-returns Inv-loop μ-loop
 returns c = search needs
 
--- src/lib.rt:47:13
 same-length-2 : tie.Need-same-length-2 Inv-loop μ-loop
 same-length-2 c = search needs
 
--- src/lib.rt:47:13
 returns-2 : tie.Need-returns-2 Inv-loop μ-loop
 returns-2 c = search needs
 
--- src/lib.rt:42:5
 loop-less : tie.Need-loop-less Inv-loop μ-loop
 loop-less c =
     let at-read : tie.After-read-behind Inv-loop μ-loop = search in
     let g = came _ _ _ _ _ (at-read .read-behind .ensures) (c .before .before .more .given .1) in search needs
 
--- src/lib.rt:42:5
 loop-again : tie.Need-loop-again Inv-loop μ-loop
 loop-again c =
     let at-read : tie.After-read-behind Inv-loop μ-loop = search in
     let g = came _ _ _ _ _ (at-read .read-behind .ensures) (c .before .before .more .given .1) in search needs
 
--- src/lib.rt:38:1
 same-length-3 : tie.Need-same-length-3 Inv-loop μ-loop
 same-length-3 c = search needs
 
--- src/lib.rt:38:1
 returns-3 : tie.Need-returns-3 Inv-loop μ-loop
 returns-3 c = search needs
 

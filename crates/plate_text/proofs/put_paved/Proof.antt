@@ -1,0 +1,121 @@
+-- `plate_text::put_paved` meets its contract.
+use mathlib.Core.Path.{_≡_, sym}
+use native.Mathlib.Omega.{arith}
+use lib.ListN.{length}
+use lib.Seq.{length-take-le}
+use borrow.Author.Needs.{needs}
+use Rattle.plate_text.proofs.Answering.{put-same}
+use Rattle.plate_text.proofs.Texts.{no-job, many-job, found}
+use Rattle.plate_text.proofs.put_paved.Statement.{statement}
+use Rattle.plate_text.proofs.put_paved.Tie as tie
+
+slice-aggregate-read-job : tie.Need-slice-aggregate-read-job
+slice-aggregate-read-job c = search needs
+
+slice-aggregate-read-job-2 : tie.Need-slice-aggregate-read-job-2
+slice-aggregate-read-job-2 c = search needs
+
+read-job-requires : tie.Need-read-job-requires
+read-job-requires c κs = search needs
+
+enum-told : tie.Need-enum-told
+enum-told c = search needs
+
+put-refused-requires : tie.Need-put-refused-requires
+put-refused-requires c κs = search needs
+
+enum-told-2 : tie.Need-enum-told-2
+enum-told-2 c = search needs
+
+put-refused-requires-2 : tie.Need-put-refused-requires-2
+put-refused-requires-2 c κs = search needs
+
+enum-known-size : tie.Need-enum-known-size
+enum-known-size c = search needs
+
+mul-floats : tie.Need-mul-floats
+mul-floats c =
+    let at-read : tie.After-read-job = search in
+    let f = found _ _ _ _ (at-read .read-job .ensures) _ _ _ (c .before .size .given .1) .few in omega arith
+
+array-share-prefix-coords : tie.Need-array-share-prefix-coords
+array-share-prefix-coords c =
+    let at-read : tie.After-read-job = search in
+    let f = found _ _ _ _ (at-read .read-job .ensures) _ _ _ (c .before .before .size .given .1) .few in
+    let l : length (at-read .read-job .last .1 .0) ≡ 4096 = search needs in omega arith
+
+slice-aggregate-put-job : tie.Need-slice-aggregate-put-job
+slice-aggregate-put-job c =
+    let at-read : tie.After-read-job = search in
+    let f = found _ _ _ _ (at-read .read-job .ensures) _ _ _ (c .before .before .before .size .given .1) .few in
+    let l : length (at-read .read-job .last .1 .0) ≡ 4096 = search needs in sym (length-take-le _ (at-read .read-job .last .1 .0) (omega arith))
+
+array-share-prefix-loop-lengths : tie.Need-array-share-prefix-loop-lengths
+array-share-prefix-loop-lengths c =
+    let at-read : tie.After-read-job = search in
+    let f = found _ _ _ _ (at-read .read-job .ensures) _ _ _ (c .before .before .before .size .given .1) .few in
+    let l : length (at-read .read-job .last .1 .1 .0) ≡ 16 = search needs in omega arith
+
+slice-aggregate-put-job-2 : tie.Need-slice-aggregate-put-job-2
+slice-aggregate-put-job-2 c =
+    let at-read : tie.After-read-job = search in
+    let f = found _ _ _ _ (at-read .read-job .ensures) _ _ _ (c .before .before .before .before .size .given .1) .few in
+    let l : length (at-read .read-job .last .1 .1 .0) ≡ 16 = search needs in sym (length-take-le _ (at-read .read-job .last .1 .1 .0) (omega arith))
+
+put-job-requires : tie.Need-put-job-requires
+put-job-requires c κs = search needs
+
+same-length : tie.Need-same-length
+same-length c = search needs
+
+returns : tie.Need-returns
+returns c =
+    let at-put : tie.After-put-refused = search in
+    let at-told : tie.After-enum-told = search in
+    let at-read : tie.After-read-job = search in
+    (put-same (no-job _ _ _ _ (at-read .read-job .ensures) (at-told .enum-told .given .1)) (at-put .put-refused .ensures .0), at-put .put-refused .ensures .1)
+
+same-length-2 : tie.Need-same-length-2
+same-length-2 c = search needs
+
+returns-2 : tie.Need-returns-2
+returns-2 c =
+    let at-put : tie.After-put-refused2 = search in
+    let at-told : tie.After-enum-told2 = search in
+    let at-read : tie.After-read-job = search in
+    (put-same (many-job _ _ _ _ (at-read .read-job .ensures) (at-told .enum-told2 .given .1)) (at-put .put-refused2 .ensures .0), at-put .put-refused2 .ensures .1)
+
+same-length-3 : tie.Need-same-length-3
+same-length-3 c = search needs
+
+returns-3 : tie.Need-returns-3
+returns-3 c =
+    let at-put : tie.After-put-job = search in
+    let at-size : tie.After-size = search in
+    let at-read : tie.After-read-job = search in
+    (put-same (found _ _ _ _ (at-read .read-job .ensures) _ _ _ (at-size .size .given .1) .text) (at-put .put-job .ensures .0), at-put .put-job .ensures .1)
+
+pub put-paved-spec : {M : Type 1} → statement M
+put-paved-spec =
+    tie.close
+    (tie.spec
+    slice-aggregate-read-job
+    slice-aggregate-read-job-2
+    read-job-requires
+    enum-told
+    put-refused-requires
+    enum-told-2
+    put-refused-requires-2
+    enum-known-size
+    mul-floats
+    array-share-prefix-coords
+    slice-aggregate-put-job
+    array-share-prefix-loop-lengths
+    slice-aggregate-put-job-2
+    put-job-requires
+    same-length
+    returns
+    same-length-2
+    returns-2
+    same-length-3
+    returns-3)
