@@ -82,6 +82,7 @@ module _ (t : List ℕ) (coords : List Float) (lengths : List ℕ) (r : JobRead)
       many : (b : Bool) (x : Float) (p n : ℕ) → cond b jobRead.TooMany (jobRead.Is x p n) ≡ jobRead.Unreadable → ⊥
       many true x p n e = let z : _≡_ {A = ℕ} 0 1 = cc in clash z
       many false x p n e = let z : _≡_ {A = ℕ} 0 1 = cc in clash z
+
       go : (o : Option Drawing) → answerOf o ≡ jobRead.Unreadable → o ≡ none
       go none e = refl
       go (some d) e = absurd (many (tooMany d) _ _ _ e)
@@ -93,6 +94,7 @@ module _ (t : List ℕ) (coords : List Float) (lengths : List ℕ) (r : JobRead)
       many : (d : Drawing) (b : Bool) (x : Float) (p n : ℕ) → tooMany d ≡ b → cond b jobRead.TooMany (jobRead.Is x p n) ≡ jobRead.TooMany → tooMany d ≡ true
       many d true x p n f e = f
       many d false x p n f e = let z : _≡_ {A = ℕ} 0 1 = cc in clash z
+
       go : (o : Option Drawing) → readJob t ≡ o → answerOf o ≡ jobRead.TooMany → refusedText 1 ≡ paveText t
       go none f e = let z : _≡_ {A = ℕ} 0 1 = cc in clash z
       go (some d) f e = sym (read-some t d f ∙ many-1 d (many d (tooMany d) _ _ _ refl e))
@@ -115,6 +117,7 @@ module _ (t : List ℕ) (coords : List Float) (lengths : List ℕ) (r : JobRead)
           let p : length (joined (loops d)) ≡ pairs = cc in
           let k : length (loops d) ≡ n = cc in
           rw (← x, ← p, ← k) (m f)
+
       go : ((d : Drawing) → tooMany d ≡ false → readJob t ≡ some d → Found t coords lengths (ofInt binary64 (pos (d .size))) (length (joined (loops d))) (length (loops d))) → (o : Option Drawing) → readJob t ≡ o
           → answerOf o ≡ jobRead.Is size pairs n → Found t coords lengths size pairs n
       go m none f e = let z : _≡_ {A = ℕ} 0 1 = cc in clash z

@@ -35,14 +35,7 @@ fn put_job(out: &mut [u8], coords: &[f64], loop_lengths: &[u16], h: f64) -> usiz
         &mut front_nodes,
         &mut front_lengths,
     );
-    put_answer(
-        out,
-        answer,
-        &points,
-        &quads,
-        &front_nodes,
-        &front_lengths,
-    )
+    put_answer(out, answer, &points, &quads, &front_nodes, &front_lengths)
 }
 
 fn put_paved(out: &mut [u8], input: &[u8]) -> usize

@@ -41,10 +41,11 @@ slice-aggregate-put-answer-4 c = search needs
 put-answer-requires : tie.Need-put-answer-requires
 put-answer-requires c κs =
     let at-job : tie.After-job = search in
-    let last = at-job .job .last in
-    (search needs,
-    answer-sound _ _ _ _ _ _ _ _ _ (at-job .job .ensures)
-    (long (last .1 .1 .1 .1 .0) (last .1 .1 .1 .1 .1 .0) (last .1 .1 .1 .1 .1 .1 .0) (last .1 .1 .1 .1 .1 .1 .1 .0) (answerCounts noCounts (at-job .job .result)) (search needs) (search needs) (search needs) (search needs)))
+    let last = at-job .job .last in (
+      search needs,
+      answer-sound _ _ _ _ _ _ _ _ _ (at-job .job .ensures)
+          (long (last .1 .1 .1 .1 .0) (last .1 .1 .1 .1 .1 .0) (last .1 .1 .1 .1 .1 .1 .0) (last .1 .1 .1 .1 .1 .1 .1 .0) (answerCounts noCounts (at-job .job .result)) (search needs) (search needs) (search needs) (search needs)),
+    )
 
 same-length : tie.Need-same-length
 same-length c = search needs
