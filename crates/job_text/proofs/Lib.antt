@@ -4,3 +4,4 @@ pub mod Points
 pub mod Following
 pub mod Storing
 pub mod Answering
+pub mod Callers

@@ -39,7 +39,8 @@ pub fn read_job(text: &[u8], coords: &mut [f64], loop_lengths: &mut [u16]) -> Jo
         return JobRead::TooMany;
     }
     if 2048 < pairs {
-        return JobRead::TooMany;
+        JobRead::TooMany
+    } else {
+        JobRead::Is(size, pairs, loops)
     }
-    JobRead::Is(size, pairs, loops)
 }
