@@ -1,6 +1,6 @@
 -- What a caller learns from an answer of `read_job`.
 use mathlib.Core.Path.{_≡_, refl, sym, _∙_, ap}
-use mathlib.Core.Bool.{Bool, true, false, cond, _||_}
+use mathlib.Core.Bool.{Bool, true, false, cond}
 use mathlib.Core.List.{List}
 use mathlib.Core.Option.{Option, none, some}
 use Prim.Native.Nat.{ℕ, _*_, _≤_}
@@ -15,7 +15,6 @@ use Rattle.state.proofs.Basics.{or-false}
 use Rattle.job_text.specs.Drawing.{Drawing, loops, jobOf}
 use Rattle.job_text.specs.Reading.{readJob}
 use Rattle.job_text.specs.Answers.{tooMany, answerOf, JobReadIs}
-use Rattle.job_text.specs.declared.jobs.JobRead.{JobRead}
 use Rattle.job_text.specs.declared.jobs.JobRead.the-variants as jobRead
 
 -- the text is the job of a drawing, and the buffers begin with its coordinates and loop lengths

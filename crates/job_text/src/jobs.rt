@@ -1,8 +1,8 @@
 // A job's text, whole.
-use crate::lines::Measure;
 ghost use mathlib.Core.Path.{_≡_};
 ghost use lib.ListN.{length};
 ghost use Rattle.job_text.specs.Answers.{JobReadIs};
+use crate::lines::Measure;
 use crate::lines::read_size;
 use crate::loops::LoopsRead;
 use crate::loops::read_loops;
