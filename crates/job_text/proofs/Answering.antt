@@ -1,7 +1,7 @@
 -- What the code finds of a text, part by part, and that it decides what the text is.
 use mathlib.Core.Path.{_≡_, refl, sym, _∙_, ap}
-use mathlib.Core.Bool.{Bool, true, false, cond, true≢false}
-use mathlib.Core.List.{List, [], _∷_, map}
+use mathlib.Core.Bool.{true, false, true≢false}
+use mathlib.Core.List.{List, _∷_, map}
 use mathlib.Core.Option.{Option, none, some}
 use Prim.Native.Nat.{ℕ, suc, _+_, _*_, _≤_, _<_}
 use native.Mathlib.Nat.{zero-add}
@@ -11,7 +11,6 @@ use lib.Dec.{ltb}
 use lib.Ieee.{Float, binary64, ofInt}
 use lib.IntN.{ℤ, pos}
 use lib.ListN.{length, drop, length-map}
-use lib.Seq.{sets}
 use Rattle.text.specs.Fields.{behind}
 use Rattle.state.specs.State.{joined}
 use Rattle.state.proofs.Basics.{or-true}
@@ -23,7 +22,6 @@ use Rattle.job_text.specs.declared.lines.Measure.{Measure}
 use Rattle.job_text.specs.declared.lines.Measure.the-variants as measure
 use Rattle.job_text.specs.declared.loops.LoopsRead.{LoopsRead}
 use Rattle.job_text.specs.declared.loops.LoopsRead.the-variants as loopsRead
-use Rattle.job_text.specs.declared.jobs.JobRead.{JobRead}
 use Rattle.job_text.specs.declared.jobs.JobRead.the-variants as jobRead
 use Rattle.job_text.proofs.Ending.{EndOf, size-end, some-is}
 use Rattle.job_text.proofs.Points.{There, measured, not-measured}

@@ -6,7 +6,7 @@ use Prim.Native.Nat.{ℕ, zero, suc, _+_, _*_, _≤_, zero-le}
 use native.Mathlib.Nat.{add-zero}
 use native.Mathlib.Omega.{arith}
 use lib.Ieee.{Float}
-use lib.ListN.{length, drop, set, length-drop}
+use lib.ListN.{length, drop}
 use lib.Seq.{sets}
 use Rattle.text.specs.Fields.{behind}
 use Rattle.state.specs.State.{joined}

@@ -7,3 +7,4 @@ pub mod Points
 pub mod Following
 pub mod Storing
 pub mod Answering
+pub mod Callers

@@ -1,13 +1,13 @@
 -- The number in a field, by the places of the text: a size, and a coordinate with its sign.
-use mathlib.Core.Path.{_≡_, refl, sym, _∙_, ap}
+use mathlib.Core.Path.{_≡_, refl, sym}
 use mathlib.Core.Bool.{Bool, true, false, not, cond}
-use mathlib.Core.List.{List, [], _∷_}
-use mathlib.Core.Option.{Option, none, some}
+use mathlib.Core.List.{List}
+use mathlib.Core.Option.{none, some}
 use Prim.Native.Nat.{ℕ, zero, suc, _+_, _-_, _*_, _/_, _%_, _^_, _≤_, _<_, compare}
 use native.Mathlib.Omega.{arith}
 use borrow.Author.Tests.{eq-eqb, ne-eqb}
 use lib.Dec.{ltb}
-use lib.Ieee.{Float, Format, emax, inf, low, nearest, neg, odd, ofInt, prec, round, size, units, binary64}
+use lib.Ieee.{Format, emax, inf, low, nearest, neg, odd, ofInt, prec, round, size, units, binary64}
 use lib.IntN.{ℤ, pos, negsuc}
 use lib.ListN.{length, getD, drop}
 use lib.Seq.{slice, slice-empty}
@@ -16,9 +16,8 @@ use Rattle.text.specs.Fields.{field, afterField, fieldEnd}
 use Rattle.text.proofs.FieldLaws.{field-at, after-at, end-within}
 use Rattle.text.proofs.Spelling.{at-place, no-byte}
 use Rattle.job_text.specs.Drawing.{sizeMost, coordinateMost}
-use Rattle.job_text.specs.Reading.{Read, read, andThen, readWhole, readSize}
+use Rattle.job_text.specs.Reading.{andThen, readWhole, readSize}
 use Rattle.job_text.specs.Answers.{placeIn, measureOf, asWhole}
-use Rattle.job_text.specs.declared.lines.Measure.{Measure}
 use Rattle.job_text.specs.declared.lines.Measure.the-variants as measure
 use Rattle.job_text.proofs.Ending.{place-of-end}
 

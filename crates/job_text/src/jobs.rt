@@ -1,8 +1,8 @@
 // A job's text, whole.
-use crate::lines::Measure;
 ghost use mathlib.Core.Path.{_≡_};
 ghost use lib.ListN.{length};
 ghost use Rattle.job_text.specs.Answers.{JobReadIs};
+use crate::lines::Measure;
 use crate::lines::read_size;
 use crate::loops::LoopsRead;
 use crate::loops::read_loops;
@@ -39,7 +39,8 @@ pub fn read_job(text: &[u8], coords: &mut [f64], loop_lengths: &mut [u16]) -> Jo
         return JobRead::TooMany;
     }
     if 2048 < pairs {
-        return JobRead::TooMany;
+        JobRead::TooMany
+    } else {
+        JobRead::Is(size, pairs, loops)
     }
-    JobRead::Is(size, pairs, loops)
 }

@@ -1,10 +1,10 @@
 // The lines of a job's text: a size, and a point.
-use text::Number;
 ghost use mathlib.Core.Path.{_≡_};
 ghost use Prim.Native.Nat.{_≤_};
 ghost use lib.ListN.{length, drop};
 ghost use Rattle.job_text.specs.Reading as reading;
 ghost use Rattle.job_text.specs.Answers.{measureOf, asWhole, lineOf};
+use text::Number;
 use text::begins_with;
 use text::field_end;
 use text::natural;

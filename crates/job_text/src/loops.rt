@@ -1,6 +1,5 @@
 // The loops of a job's text. Points and lengths are stored while they fit, and all are counted: reading goes on to the text's end,
 // since an unreadable text is 11 however many points come before.
-use crate::lines::AtLine;
 ghost use mathlib.Core.Path.{_≡_};
 ghost use mathlib.Core.List.{[], _∷_};
 ghost use mathlib.Core.Bool.{cond};
@@ -11,6 +10,7 @@ ghost use lib.Seq.{sets};
 ghost use Rattle.text.specs.Fields.{behind};
 ghost use Rattle.job_text.specs.Drawing.{holeWord};
 ghost use Rattle.job_text.specs.Answers.{LoopReadIs, holesAt, loopsFrom, storing, stored, storedIn};
+use crate::lines::AtLine;
 use crate::lines::read_at;
 use text::begins_with;
 

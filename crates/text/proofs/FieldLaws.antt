@@ -1,15 +1,15 @@
 -- Laws of fields and of words at the head of a text.
 use mathlib.Core.Path.{_≡_, refl, sym, _∙_, ap}
-use mathlib.Core.Bool.{Bool, true, false, cond, _||_}
+use mathlib.Core.Bool.{Bool, true, false, cond}
 use mathlib.Core.List.{List, [], _∷_}
-use mathlib.Core.Option.{Option, none, some}
+use mathlib.Core.Option.{none, some}
 use Prim.Native.Nat.{ℕ, zero, suc, _+_, _≤_, _<_, zero-le, suc-le-suc}
 use native.Mathlib.Nat.{add-zero, zero-add, suc-add}
 use native.Mathlib.Numerals.{add-one}
 use native.Mathlib.Omega.{arith}
-use borrow.Author.Tests.{eqb-true, eq-eqb, ne-eqb}
+use borrow.Author.Tests.{eq-eqb, ne-eqb}
 use lib.Dec.{eqb}
-use lib.ListN.{length, getD, take, drop, length-drop, length-take, drop-of-length-le}
+use lib.ListN.{length, getD, take, drop, length-drop, drop-of-length-le}
 use lib.Seq.{drop-cons, drop-drop, slice, take-nil}
 use Rattle.text.specs.Fields.{endsField, field, afterField, fieldEnd, behind}
 
@@ -43,6 +43,15 @@ field-short (b ∷ bs) = by (endsField b) (field-short bs)
     by false i = suc-le-suc i
 
 -- ---- the place where a field ends, looked for byte by byte
+
+pub tab-ends : (b : ℕ) → b ≡ 9 → endsField b ≡ true
+tab-ends b e = rw (eq-eqb b 9 e)
+
+pub lf-ends : (b : ℕ) → (b ≡ 9 → ⊥) → b ≡ 10 → endsField b ≡ true
+lf-ends b n e = rw (ne-eqb b 9 n, eq-eqb b 10 e)
+
+pub none-ends : (b : ℕ) → (b ≡ 9 → ⊥) → (b ≡ 10 → ⊥) → endsField b ≡ false
+none-ends b n m = rw (ne-eqb b 9 n, ne-eqb b 10 m)
 
 module _ (t : List ℕ) (at : ℕ) where
   pub end-last : length t ≤ at → fieldEnd t at ≡ at

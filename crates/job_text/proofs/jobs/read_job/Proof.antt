@@ -1,6 +1,4 @@
 -- `job_text::jobs::read_job` meets its contract. Each part that is there tells where the next begins; the first that is not makes the text unreadable.
-use mathlib.Core.Path.{_≡_, sym, _∙_}
-use Prim.Native.Nat.{_+_}
 use native.Mathlib.Omega.{arith}
 use borrow.Author.Needs.{needs}
 use borrow.Author.Tests.{not-true, not-false}

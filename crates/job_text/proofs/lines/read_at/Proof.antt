@@ -1,5 +1,4 @@
 -- `job_text::lines::read_at` meets its contract. Each part that is there tells where the next begins.
-use mathlib.Core.Path.{_≡_, sym, _∙_}
 use mathlib.Core.List.{[], _∷_}
 use Prim.Native.Nat.{_+_}
 use native.Mathlib.Omega.{arith}

@@ -1,5 +1,5 @@
 -- `job_text::lines::read_size` meets its contract.
-use mathlib.Core.Path.{_≡_, sym, _∙_, ap}
+use mathlib.Core.Path.{sym, _∙_, ap}
 use native.Mathlib.Omega.{arith}
 use borrow.Author.Needs.{needs}
 use Rattle.text.specs.Number.{numberIn}

@@ -1,9 +1,7 @@
 -- `job_text::loops::read_loops` meets its contract.
-use mathlib.Core.Path.{_≡_, sym, _∙_}
-use Prim.Native.Nat.{_+_, _≤_}
+use mathlib.Core.Path.{sym, _∙_}
 use native.Mathlib.Omega.{arith}
 use borrow.Author.Needs.{needs}
-use lib.ListN.{length}
 use Rattle.job_text.proofs.Following.{loop-place}
 use Rattle.job_text.proofs.Storing.{loops-step}
 use Rattle.job_text.proofs.loops.read_loops.Statement.{statement}

@@ -1,5 +1,5 @@
 -- `job_text::loops::store_point` meets its contract. Beyond the end `sets` stores nothing.
-use mathlib.Core.Path.{_≡_, sym, _∙_}
+use mathlib.Core.Path.{sym, _∙_}
 use native.Mathlib.Numerals.{add-one}
 use native.Mathlib.Omega.{arith}
 use borrow.Author.Needs.{needs}

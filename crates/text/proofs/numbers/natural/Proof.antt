@@ -1,5 +1,5 @@
 -- `text::numbers::natural` meets its contract: each test decides what the field is, and where all pass it is the writing of what it spells.
-use mathlib.Core.Path.{_≡_, refl, sym, _∙_, ap}
+use mathlib.Core.Path.{_≡_, sym, _∙_, ap}
 use mathlib.Core.Logic.{⊎-elim}
 use mathlib.Core.Bool.{cond}
 use mathlib.Core.Option.{none, some}

@@ -3,7 +3,6 @@ use mathlib.Core.Path.{_≡_, refl, sym, _∙_}
 use Prim.Native.Nat.{_+_, _≤_, _<_, _-_, _^_, suc}
 use native.Mathlib.Nat.{pow-suc}
 use native.Mathlib.Omega.{arith}
-use lib.ListN.{length, getD}
 use lib.Seq.{slice}
 use Rattle.text.specs.Number.{spelling}
 use Rattle.text.proofs.Spelling.{place-spelled, place-below, place-above, end-spelled, small-power}
