@@ -18,7 +18,7 @@ use Rattle.state.proofs.Fitting.{Fit, sound-written, clean-written, fit-read}
 use Rattle.rules.specs.Closing.{closure, keptFronts, closed, closings}
 use Rattle.rules.proofs.Allowed.{kept-fewer}
 use Rattle.rules.proofs.Answers.{closings-give}
-use Rattle.closing.specs.Keeping.{stays}
+use Rattle.closing_search.specs.Finding.{stays}
 
 -- no kept front has a node beyond m
 kept-below : (limit : Float) (pts : List Float) (m : ℕ) (fs : List (List ℕ)) → someFrom m (joined fs) ≡ false → someFrom m (joined (keptFronts limit pts fs)) ≡ false

@@ -1,6 +1,5 @@
-pub mod Splitting
-pub mod Gathering
 pub mod Moving
 pub mod Packing
+pub mod Marked
 pub mod Writing
 pub mod Fitting

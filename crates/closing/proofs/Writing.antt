@@ -20,8 +20,9 @@ use Rattle.state.proofs.Growing.{extended, numbers, numbers-append, length-numb
 use Rattle.state.proofs.Reading.{Counted, sound-counted, sizes-long, points-long, nodes-read, quads-read, quad-nodes-read}
 use Rattle.state.proofs.Zeros.{same-held, same-state, still-sound, quads-held}
 use Rattle.rules.specs.Closing.{closure, closed, closings}
-use Rattle.closing.specs.Keeping.{closuresOf, stays, keptBy}
-use Rattle.closing.proofs.Gathering.{closures-all, kept-all}
+use Rattle.closing_search.specs.Finding.{closuresOf, stays}
+use Rattle.closing.specs.Keeping.{keptBy}
+use Rattle.closing.proofs.Marked.{closures-all, kept-all}
 
 -- buffers and counts that are a state, written
 done-is : (s : State) (l : Held) → l ≡ written s → left (Answers.Done (l .counts)) l ≡ record { answer = Answers.Done (countsOf s); held = written s }

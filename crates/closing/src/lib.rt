@@ -1,9 +1,6 @@
 // Fronts of four and six nodes closed by one quad or two: the Rust's `close_small_fronts` on a lent state, and the closing call.
 mod call;
-mod finding;
-mod front;
 mod keeping;
-mod quads;
 mod step;
 
 pub use call::close;

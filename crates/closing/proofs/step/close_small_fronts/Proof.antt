@@ -14,7 +14,7 @@ use Rattle.state.proofs.Growing.{numbers, length-numbers}
 use Rattle.state.proofs.Stores.{front-part}
 use Rattle.state.proofs.Reading.{sizes-long, fits, sound-counted}
 use Rattle.state.proofs.Zeros.{still-sound}
-use Rattle.closing.specs.Keeping.{stays}
+use Rattle.closing_search.specs.Finding.{stays}
 use Rattle.closing.proofs.Writing.{points, fronts, added, read-below, full, closes}
 use borrow.Author.Needs.{needs}
 use Rattle.closing.proofs.step.close_small_fronts.Statement.{statement}

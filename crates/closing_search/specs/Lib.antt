@@ -1,0 +1,2 @@
+pub mod Closures
+pub mod Finding
