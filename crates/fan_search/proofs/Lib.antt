@@ -1,4 +1,5 @@
 pub mod Literals
 pub mod Searching
+pub mod Barring
 pub mod Fanning
 pub mod Deciding

@@ -1,15 +1,17 @@
 -- The search for the fan's centre, one point of the front and one point of the grid a turn.
 use mathlib.Core.Path.{_≡_, refl}
-use mathlib.Core.Bool.{Bool, true, false}
+use mathlib.Core.Bool.{Bool, true, false, cond, _&&_}
 use Prim.Native.Nat.{ℕ, _+_}
 use native.Mathlib.Numerals.{add-one}
 use lib.Ieee.{Float, inf, lt}
 use Rattle.float.specs.Helpers.{lesser, greater}
 use Rattle.geometry.specs.declared.Point.{Point}
 use Rattle.geometry.specs.Rings.{Ring}
-use Rattle.geometry.specs.Measures.{inPolygon, ringDistance}
+use Rattle.geometry.specs.Measures.{inPolygon, ringDistance, shortInPaving}
+use Rattle.geometry.specs.Squares.{leastSquare}
 use Rattle.geometry.specs.Domain.{contains}
 use Rattle.rules.specs.Fan.{Box, box, Centre, gridPoint, tryPoint, searchColumn, searchGrid}
+use Rattle.fan_search.specs.Squares.{sideSquare}
 use mathlib.Core.List.{List}
 
 -- ---- the box
@@ -28,24 +30,32 @@ box-more r i p left low right high l b g h e hp hl hb hg hh = rw (add-one, ← e
 
 -- ---- one point tried
 
-module _ (outline : List Ring) (r : Ring) (b : Box) (p : Point) (best : Centre) (t : Bool) (ht : t ≡ contains outline p) where
-  pub outside : t ≡ false → best ≡ tryPoint outline r b p best
-  unfolding tryPoint
-  outside h = rw (← ht, h)
+fails-second : (a c : Bool) → (a && false && c) ≡ false
+fails-second true c = refl
+fails-second false c = refl
 
-  module _ (h : t ≡ true) (u : Bool) (hu : u ≡ inPolygon p r) where
+fails-last : (a b : Bool) → (a && b && false) ≡ false
+fails-last true true = refl
+fails-last true false = refl
+fails-last false b = refl
+
+module _ (outline : List Ring) (r : Ring) (b : Box) (p : Point) (best : Centre) where
+  pub nearer : lt (best .clearance) (ringDistance (inf false) p r (r .size)) ≡ false → best ≡ tryPoint outline r b p best
+  unfolding tryPoint
+  nearer h = rw (h, fails-last (contains outline p) (inPolygon p r))
+
+  pub outside : contains outline p ≡ false → best ≡ tryPoint outline r b p best
+  unfolding tryPoint
+  outside h = rw h
+
+  module _ (u : Bool) (hu : u ≡ inPolygon p r) where
     pub beyond : u ≡ false → best ≡ tryPoint outline r b p best
     unfolding tryPoint
-    beyond g = rw (← ht, h, ← hu, g)
+    beyond g = rw (← hu, g, fails-second (contains outline p) (lt (best .clearance) (ringDistance (inf false) p r (r .size))))
 
-    module _ (g : u ≡ true) (d : Float) (hd : d ≡ ringDistance (inf false) p r (r .size)) where
-      pub farther : lt (best .clearance) d ≡ true → record { point = p; clearance = d } ≡ tryPoint outline r b p best
-      unfolding tryPoint
-      farther k = rw (← ht, h, ← hu, g, ← hd, k)
-
-      pub nearer : lt (best .clearance) d ≡ false → best ≡ tryPoint outline r b p best
-      unfolding tryPoint
-      nearer k = rw (← ht, h, ← hu, g, ← hd, k)
+    pub farther : (d : Float) → u ≡ true → contains outline p ≡ true → d ≡ ringDistance (inf false) p r (r .size) → lt (best .clearance) d ≡ true → record { point = p; clearance = d } ≡ tryPoint outline r b p best
+    unfolding tryPoint
+    farther d g h hd k = rw (← hu, g, h, ← hd, k)
 
 -- ---- the grid
 
@@ -67,3 +77,10 @@ module _ (outline : List Ring) (r : Ring) (b : Box) where
       → next ≡ searchGrid outline r b (i + 1) best
   unfolding searchGrid
   grid-more i best found next hf hn = rw (add-one, ← hf) hn
+
+-- ---- one side looked at
+
+pub least-more : (p : Point) (r : Ring) (i : ℕ) (least square after : Float) → least ≡ leastSquare shortInPaving p (inf false) r i → square ≡ sideSquare p r i → after ≡ cond (lt square least) square least
+    → after ≡ leastSquare shortInPaving p (inf false) r (i + 1)
+unfolding leastSquare
+least-more p r i least square after hl hs ha = rw (add-one, ← hl, ← hs) ha

@@ -1,3 +1,4 @@
 pub mod Values
 pub mod Quads
 pub mod Numbers
+pub mod Squares

@@ -5,9 +5,13 @@ ghost use lib.ListN.{getD, length};
 ghost use Rattle.geometry.specs.Rings.{nodeRing};
 ghost use Rattle.geometry.specs.Domain.{rings, sumOf};
 ghost use Rattle.rules.specs.Fan as fans;
+ghost use Rattle.fan_search.specs.Squares.{Squared};
 ghost use Rattle.fan_search.specs.Values.{boxed, centred};
 use crate::Box;
 use crate::Centre;
+use crate::Sides;
+use crate::squares::look_at;
+use crate::squares::side_square;
 use geometry::Point;
 
 // The box of the points that the nodes name.
@@ -54,8 +58,8 @@ fn grid_point(b: Box, i: usize, j: usize) -> Point
     Point { x, y }
 }
 
-// `p` where it is in the domain, within the front and farther from it than `best`; otherwise `best`. The distance, which is dear,
-// comes last.
+// `p` where it is in the domain, within the front and farther from it than `best`; otherwise `best`. The side that the point before
+// was too near to comes first, and the domain, in which a front lies, last.
 fn try_point(
     coords: &[f64],
     loops: &[u16],
@@ -64,24 +68,41 @@ fn try_point(
     p: Point,
     best: Centre,
 ) -> Centre
-    requires { ⌜ sumOf (now loops) * 2 ≤ length (now coords) ⌝ }
+    requires { ⌜ (sumOf (now loops) * 2 ≤ length (now coords)) × Squared best ⌝ }
     requires { ⌜ ((i : ℕ) → i < length (now nodes) → getD (now nodes) i 0 * 2 + 1 < length (now points)) ⌝ }
-    ensures { λ r. ⌜ ((b : fans.Box) → centred r ≡ fans.tryPoint (rings (now (coords .entry)) (now (loops .entry))) (nodeRing (now (points .entry)) (now (nodes .entry))) b p (centred best)) ⌝ }
+    ensures { λ r. ⌜ Squared r × ((b : fans.Box) → centred r ≡ fans.tryPoint (rings (now (coords .entry)) (now (loops .entry))) (nodeRing (now (points .entry)) (now (nodes .entry))) b p (centred best)) ⌝ }
 {
-    if !geometry::contains(coords, loops, p) {
-        return best;
+    let near = best.near;
+    if near < nodes.len() {
+        if side_square(p, points, nodes, near) <= best.square {
+            return best;
+        }
     }
     if !geometry::in_front(p, points, nodes) {
         return best;
     }
-    let clearance = geometry::front_distance(p, points, nodes);
-    if best.clearance < clearance {
-        return Centre {
-            point: p,
-            clearance,
-        };
+    let seen = look_at(p, points, nodes, best.square);
+    match seen {
+        Sides::Near(side) => {
+            let mut kept = best;
+            kept.near = side;
+            kept
+        }
+        Sides::Clear(square) => {
+            let clearance = float::root(square);
+            if best.clearance < clearance {
+                if geometry::contains(coords, loops, p) {
+                    return Centre {
+                        point: p,
+                        clearance,
+                        square,
+                        near,
+                    };
+                }
+            }
+            best
+        }
     }
-    best
 }
 
 // The best of `best` and the grid's column `i`, from low to high.
@@ -94,9 +115,9 @@ fn search_column(
     i: usize,
     best: Centre,
 ) -> Centre
-    requires { ⌜ (i < 13) × (sumOf (now loops) * 2 ≤ length (now coords)) ⌝ }
+    requires { ⌜ (i < 13) × (sumOf (now loops) * 2 ≤ length (now coords)) × Squared best ⌝ }
     requires { ⌜ ((i : ℕ) → i < length (now nodes) → getD (now nodes) i 0 * 2 + 1 < length (now points)) ⌝ }
-    ensures { λ r. ⌜ centred r ≡ fans.searchColumn (rings (now (coords .entry)) (now (loops .entry))) (nodeRing (now (points .entry)) (now (nodes .entry))) (boxed b) i 13 (centred best) ⌝ }
+    ensures { λ r. ⌜ Squared r × (centred r ≡ fans.searchColumn (rings (now (coords .entry)) (now (loops .entry))) (nodeRing (now (points .entry)) (now (nodes .entry))) (boxed b) i 13 (centred best)) ⌝ }
 {
     let mut found = best;
     for j in 0..13 {
@@ -108,7 +129,7 @@ fn search_column(
 
 // Where the search starts: the middle of the box, with no clearance.
 fn middle_of(b: Box) -> Centre
-    ensures { λ r. ⌜ centred r ≡ fans.start (boxed b) ⌝ }
+    ensures { λ r. ⌜ Squared r × (centred r ≡ fans.start (boxed b)) ⌝ }
 {
     let point = Point {
         x: 0.5 * (b.left + b.right),
@@ -117,6 +138,8 @@ fn middle_of(b: Box) -> Centre
     Centre {
         point,
         clearance: -1.0 / 0.0,
+        square: -1.0 / 0.0,
+        near: 0,
     }
 }
 

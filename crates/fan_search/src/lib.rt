@@ -2,6 +2,7 @@
 // written here.
 mod grid;
 mod quads;
+mod squares;
 mod trial;
 
 use geometry::Point;
@@ -16,10 +17,19 @@ pub struct Box {
     pub high: f64,
 }
 
-// The best point of the grid so far, and its distance to the front.
+// The best point of the grid so far, its distance to the front and the square of that, and the side that a point was last found too
+// near to.
 pub struct Centre {
     pub point: Point,
     pub clearance: f64,
+    pub square: f64,
+    pub near: usize,
+}
+
+// The sides of a front seen from a point: the first that is too near, or the least square of the distances to them.
+pub enum Sides {
+    Near(usize),
+    Clear(f64),
 }
 
 // The points of a quad's three front nodes, in turn.

@@ -26,7 +26,7 @@ returns-2 c =
     let at-if1 : tie.Else1 = search in
     let entry : tie.Start = search in
     let a = entry .args in
-    no-clearance (a .limit) (rings (a .coords .now) (a .loops .now)) (a .points .now) (a .nodes .now) (a .quads) (at-if1 .if1 .left) _ (at-centre-of .centre-of .ensures) _ (at-is-finite .is-finite .ensures) (rw zero-is at (c .if2 .taken))
+    no-clearance (a .limit) (rings (a .coords .now) (a .loops .now)) (a .points .now) (a .nodes .now) (a .quads) (at-if1 .if1 .left) (at-centre-of .centre-of .result) (at-centre-of .centre-of .ensures) _ (at-is-finite .is-finite .ensures) (rw zero-is at (c .if2 .taken))
 
 add-if3 : tie.Need-add-if3
 add-if3 c = search needs
@@ -42,7 +42,7 @@ returns-3 c =
     let at-if1 : tie.Else1 = search in
     let entry : tie.Start = search in
     let a = entry .args in
-    too-many (a .limit) (rings (a .coords .now) (a .loops .now)) (a .points .now) (a .nodes .now) (a .quads) (at-if1 .if1 .left) _ (at-centre-of .centre-of .ensures) _ (at-is-finite .is-finite .ensures) (rw zero-is at (at-if2 .if2 .left)) (c .if3 .taken)
+    too-many (a .limit) (rings (a .coords .now) (a .loops .now)) (a .points .now) (a .nodes .now) (a .quads) (at-if1 .if1 .left) (at-centre-of .centre-of .result) (at-centre-of .centre-of .ensures) _ (at-is-finite .is-finite .ensures) (rw zero-is at (at-if2 .if2 .left)) (c .if3 .taken)
 
 all-pass-requires : tie.Need-all-pass-requires
 all-pass-requires c κs =
@@ -60,7 +60,7 @@ returns-4 c =
     let at-if1 : tie.Else1 = search in
     let entry : tie.Start = search in
     let a = entry .args in
-    one-fails (a .limit) (rings (a .coords .now) (a .loops .now)) (a .points .now) (a .nodes .now) (a .quads) (at-if1 .if1 .left) _ (at-centre-of .centre-of .ensures) _ (at-is-finite .is-finite .ensures) (rw zero-is at (at-if2 .if2 .left)) (at-if3 .if3 .left) _ (at-all-pass .all-pass .ensures) (not-true _ (c .if4 .taken))
+    one-fails (a .limit) (rings (a .coords .now) (a .loops .now)) (a .points .now) (a .nodes .now) (a .quads) (at-if1 .if1 .left) (at-centre-of .centre-of .result) (at-centre-of .centre-of .ensures) _ (at-is-finite .is-finite .ensures) (rw zero-is at (at-if2 .if2 .left)) (at-if3 .if3 .left) _ (at-all-pass .all-pass .ensures) (not-true _ (c .if4 .taken))
 
 returns-5 : tie.Need-returns-5
 returns-5 c =
@@ -72,7 +72,7 @@ returns-5 c =
     let at-if1 : tie.Else1 = search in
     let entry : tie.Start = search in
     let a = entry .args in
-    all-stand (a .limit) (rings (a .coords .now) (a .loops .now)) (a .points .now) (a .nodes .now) (a .quads) (at-if1 .if1 .left) _ (at-centre-of .centre-of .ensures) _ (at-is-finite .is-finite .ensures) (rw zero-is at (at-if2 .if2 .left)) (at-if3 .if3 .left) _ (at-all-pass .all-pass .ensures) (not-false _ (c .if4 .left))
+    all-stand (a .limit) (rings (a .coords .now) (a .loops .now)) (a .points .now) (a .nodes .now) (a .quads) (at-if1 .if1 .left) (at-centre-of .centre-of .result) (at-centre-of .centre-of .ensures) _ (at-is-finite .is-finite .ensures) (rw zero-is at (at-if2 .if2 .left)) (at-if3 .if3 .left) _ (at-all-pass .all-pass .ensures) (not-false _ (c .if4 .left))
 
 pub try-fan-spec : {M : Type 1} → statement M
 try-fan-spec =
