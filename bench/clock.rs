@@ -36,8 +36,24 @@ pub fn least_each(rounds: usize, pieces: usize, mut port: impl FnMut() -> Durati
     (best.0 / pieces as f64, best.1 / pieces as f64)
 }
 
+/// The least nanoseconds of a single piece of work, of each of some ways that time themselves; they take turns.
+pub fn least_single<const N: usize>(turns: usize, mut ways: [&mut dyn FnMut() -> Duration; N]) -> [f64; N] {
+    let mut best = [f64::INFINITY; N];
+    for _ in 0..turns {
+        for (best, way) in best.iter_mut().zip(&mut ways) {
+            *best = best.min(way().as_nanos() as f64);
+        }
+    }
+    best
+}
+
 pub fn line(what: &str, (port, rust): (f64, f64)) {
     println!("{what:<54} port {port:>12.1} ns  Rust {rust:>12.1} ns  ratio {:.2}", port / rust);
+}
+
+/// How much longer each takes than at the size before.
+pub fn growth(now: (f64, f64), before: (f64, f64)) {
+    println!("{:<54} port {:.1} times the size before, Rust {:.1} times", "", now.0 / before.0, now.1 / before.1);
 }
 
 /// What else the machine does: its load over the last minute.

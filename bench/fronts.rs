@@ -4,10 +4,12 @@
 //! Reading the clock takes some 25 ns and is in every time: where the Rust alone takes no more, it does nothing.
 //! For each outline the call on a state with no front comes first: the tests and the zeros, and next to nothing besides.
 //!
-//! Fronts of 4 and 6 nodes close, longer ones are kept. A fan on 6 or 64 nodes is granted. On 4 nodes, or on 512 and more, no
+//! Fronts of 4 and 6 nodes close, longer ones are kept. What closing itself takes, apart from the tests and the zeros, is the
+//! difference between the call on a state with such fronts and the call on the same state but that its fronts have a node more or
+//! less, in turn, and are kept; the Rust's is taken the same way. A fan on 6 or 64 nodes is granted. On 4 nodes, or on 512 and more, no
 //! centre gives every quad its corners: after the search of the grid comes 27, and nothing is written.
 
-use crate::clock::{least_each, line};
+use crate::clock::{least_each, least_single, line};
 use crate::port::{self, lengths_of, port_job, PortJob};
 use oracle::calls::{self, default_options, Buffers, Counts, Job, Ready};
 use oracle::generate::on_circle;
@@ -38,6 +40,11 @@ fn ring(n: usize, radius: f64, x: f64) -> impl Iterator<Item = f64> {
 
 /// So many fronts of n nodes side by side, in an outline of m points round them.
 fn state(m: usize, n: usize, fronts: usize) -> (Job, Buffers, Counts) {
+    uneven(m, n, fronts, |_| n)
+}
+
+/// The same with so many points, and fronts that take other numbers of them.
+fn uneven(m: usize, n: usize, fronts: usize, nodes: impl Fn(usize) -> usize) -> (Job, Buffers, Counts) {
     let radius = 2.0 * n.max(4) as f64;
     let reach = 4.0 * radius * fronts.max(1) as f64;
     let job = Job { xy: ring(m, reach, 0.0).collect(), lengths: vec![m], h: 1.0, options: default_options() };
@@ -45,9 +52,9 @@ fn state(m: usize, n: usize, fronts: usize) -> (Job, Buffers, Counts) {
     for f in 0..fronts {
         let x = 2.5 * radius * (f as f64 - 0.5 * (fronts - 1) as f64);
         ring(n, radius, x).enumerate().for_each(|(i, c)| b.points[2 * n * f + i] = c);
-        b.front_lengths[f] = n as u16;
+        b.front_lengths[f] = nodes(f) as u16;
     }
-    (0..n * fronts).for_each(|k| b.front_nodes[k] = k as u16);
+    (0..(0..fronts).map(nodes).sum()).for_each(|k| b.front_nodes[k] = k as u16);
     (job, b, Counts { points: n * fronts, fronts, ..Counts::default() })
 }
 
@@ -129,7 +136,44 @@ fn run(name: &str, rust: &str, call: &Call, fronts: &[(usize, usize)], pieces: i
     }
 }
 
+/// The port's nanoseconds of closing so many fronts of n nodes, and the Rust's.
+fn step(m: usize, n: usize, fronts: usize) -> (f64, f64) {
+    let closed = state(m, n, fronts);
+    let kept = uneven(m, n, fronts, |f| if f % 2 == 0 { n - 1 } else { n + 1 });
+    let lengths = lengths_of(&closed.0);
+    let given = port_job(&closed.0, &lengths);
+    let port = |(_, clean, start): &(Job, Buffers, Counts), quads: usize| {
+        let (clean, start, mut b) = (clean.clone(), start.list().map(|c| c as u64), clean.clone());
+        move |given: &PortJob| {
+            b.front_nodes[..n * fronts].copy_from_slice(&clean.front_nodes[..n * fronts]);
+            b.front_lengths.copy_from_slice(&clean.front_lengths);
+            let mut counts = start;
+            let clock = Instant::now();
+            black_box(port::close(given, &mut b, &mut counts));
+            let time = clock.elapsed();
+            assert!(counts[1] == quads as u64, "the fronts close, or are kept");
+            time
+        }
+    };
+    let rust = |(job, clean, start): &(Job, Buffers, Counts)| {
+        let original = Ready::new(job, clean, start).expect("a sound state");
+        move || {
+            let mut ready = original.clone();
+            let clock = Instant::now();
+            black_box(ready.close());
+            clock.elapsed()
+        }
+    };
+    let (mut closing, mut keeping) = (port(&closed, fronts * (n / 2 - 1)), port(&kept, 0));
+    let (mut rust_closing, mut rust_keeping) = (rust(&closed), rust(&kept));
+    let best = least_single(20_000, [&mut || closing(&given), &mut || keeping(&given), &mut rust_closing, &mut rust_keeping]);
+    (best[0] - best[1], best[2] - best[3])
+}
+
 pub fn closings() {
+    for (n, fronts) in [(4, 1), (4, 16), (6, 1), (6, 16)] {
+        line(&format!("closing {fronts} of {n} nodes, without tests and zeros"), step(4, n, fronts));
+    }
     let fronts = [(0, 0), (4, 1), (4, 16), (6, 1), (6, 16), (64, 1), (64, 16), (512, 1), (512, 4), (2_048, 1)];
     run("closings", "close_small_fronts", &CLOSE, &fronts, |_, nodes| if nodes > 500 { 20 } else { 60 });
 }

@@ -1,14 +1,16 @@
-//! bench root | geometry | sample | rows | closings | fan
+//! bench root | geometry | sample | rows | closings | fan | job
 
 mod clock;
 mod fronts;
 mod geometry;
+mod job;
 #[allow(dead_code)]
 #[path = "../oracle/port/port.rs"]
 mod port;
 mod root;
 mod rows;
 mod sample;
+mod work;
 
 fn main() {
     let words: Vec<String> = std::env::args().skip(1).collect();
@@ -20,8 +22,9 @@ fn main() {
         Some("rows") => rows::run(),
         Some("closings") => fronts::closings(),
         Some("fan") => fronts::fan(),
+        Some("job") => job::run(),
         _ => {
-            eprintln!("bench root|geometry|sample|rows|closings|fan");
+            eprintln!("bench root|geometry|sample|rows|closings|fan|job");
             std::process::exit(2)
         }
     }

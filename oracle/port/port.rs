@@ -1,4 +1,4 @@
-//! The port's calls, from the static library that `rt staticlib exports` writes.
+//! The port's calls, from the static libraries that `rt staticlib` writes of the crates exports*.
 //! A slice goes over as its address and its length.
 
 mod calls {

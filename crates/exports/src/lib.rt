@@ -1,7 +1,2 @@
-// The calls for C and Rust callers. None requires anything: where a function below asks for lengths or node numbers that
-// fit, its call tests them first, and answers NaN or false where they do not.
+// The calls on jobs for C and Rust callers. None requires anything.
 mod calls;
-mod counts;
-mod fronts;
-mod measures;
-mod outline;

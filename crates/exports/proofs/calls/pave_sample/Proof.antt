@@ -1,15 +1,28 @@
 -- `exports::calls::pave_sample` meets its contract.
+use mathlib.Core.Path.{refl}
 use lib.ListN.{length}
 use Rattle.state.specs.Call.{Left, lengthsOf}
 use Rattle.input.specs.declared.Options.{Options}
 use Rattle.input.specs.Job.{job}
 use Rattle.sampling.specs.Sample.{sampleCall}
-use Rattle.exports.specs.Calls.{optionsOf}
-use Rattle.exports.proofs.Slices.{job-short, job-done, job-refused}
-use mathlib.Core.Path.{refl}
+use Rattle.exports_counts.specs.Calls.{optionsOf}
+use Rattle.exports_counts.proofs.Slices.{job-short, job-answered}
 use borrow.Author.Needs.{needs}
 use Rattle.exports.proofs.calls.pave_sample.Statement.{statement}
 use Rattle.exports.proofs.calls.pave_sample.Tie as tie
+
+-- the call, by the options that it gets
+abbrev call : tie.Start → Options → Left
+call s o = sampleCall (job (s .args .coords .now) (s .args .loop-lengths .now) (s .args .h) o) (lengthsOf (length (s .args .points .now)) (length (s .args .quads .now)) (length (s .args .front-nodes .now)) (length (s .args .front-lengths .now)))
+
+abbrev options : tie.Start → Options
+options s = optionsOf (s .args .corner-margin) (s .args .min-edge-fraction) (s .args .front-gap) (s .args .max-row-rounds) (s .args .seam)
+
+abbrev start : tie.Else1 → tie.Start
+start c = search
+
+abbrev short : tie.Then1 → tie.Start
+short c = search
 
 clear-all-requires : tie.Need-clear-all-requires
 clear-all-requires c κs = search needs
@@ -32,19 +45,6 @@ same-length-4 c = search needs
 same-length-5 : tie.Need-same-length-5
 same-length-5 c = search needs
 
--- the call, by the options that it gets
-abbrev call : tie.Start → Options → Left
-call s o = sampleCall (job (s .args .coords .now) (s .args .loop-lengths .now) (s .args .h) o) (lengthsOf (length (s .args .points .now)) (length (s .args .quads .now)) (length (s .args .front-nodes .now)) (length (s .args .front-lengths .now)))
-
-abbrev options : tie.Start → Options
-options s = optionsOf (s .args .corner-margin) (s .args .min-edge-fraction) (s .args .front-gap) (s .args .max-row-rounds) (s .args .seam)
-
-abbrev start : tie.Else1 → tie.Start
-start c = search
-
-abbrev short : tie.Then1 → tie.Start
-short c = search
-
 returns : tie.Need-returns
 returns c =
     let at-clear-counts : tie.After-clear-counts = search in
@@ -58,17 +58,11 @@ options-of-requires c κs = search needs
 sample-requires : tie.Need-sample-requires
 sample-requires c κs = search needs
 
-enum-known-answer : tie.Need-enum-known-answer
-enum-known-answer c = search needs
+no-counts-requires : tie.Need-no-counts-requires
+no-counts-requires c κs = search needs
 
-put-counts-requires : tie.Need-put-counts-requires
-put-counts-requires c κs = search needs
-
-enum-known-answer-2 : tie.Need-enum-known-answer-2
-enum-known-answer-2 c = search needs
-
-clear-counts-requires-2 : tie.Need-clear-counts-requires-2
-clear-counts-requires-2 c κs = search needs
+put-answer-requires : tie.Need-put-answer-requires
+put-answer-requires c κs = search needs
 
 same-length-6 : tie.Need-same-length-6
 same-length-6 c = search needs
@@ -87,36 +81,12 @@ same-length-10 c = search needs
 
 returns-2 : tie.Need-returns-2
 returns-2 c =
-    let at-put-counts : tie.After-put-counts = search in
-    let at-answer : tie.After-answer = search in
+    let at-put-answer : tie.After-put-answer = search in
+    let at-no-counts : tie.After-no-counts = search in
     let at-sample : tie.After-sample = search in
     let at-options-of : tie.After-options-of = search in
     let at-if1 : tie.Else1 = search in
-    job-done (call (start at-if1)) _ _ (at-options-of .options-of .ensures) _ _ _ _ _ (start at-if1 .args .counts .now) (at-if1 .if1 .left) _ (at-sample .sample .ensures) _ (at-answer .answer .given .1) (at-put-counts .put-counts .ensures)
-
-same-length-11 : tie.Need-same-length-11
-same-length-11 c = search needs
-
-same-length-12 : tie.Need-same-length-12
-same-length-12 c = search needs
-
-same-length-13 : tie.Need-same-length-13
-same-length-13 c = search needs
-
-same-length-14 : tie.Need-same-length-14
-same-length-14 c = search needs
-
-same-length-15 : tie.Need-same-length-15
-same-length-15 c = search needs
-
-returns-3 : tie.Need-returns-3
-returns-3 c =
-    let at-clear-counts : tie.After-clear-counts2 = search in
-    let at-answer : tie.After-answer2 = search in
-    let at-sample : tie.After-sample = search in
-    let at-options-of : tie.After-options-of = search in
-    let at-if1 : tie.Else1 = search in
-    job-refused (call (start at-if1)) _ _ (at-options-of .options-of .ensures) _ _ _ _ _ (start at-if1 .args .counts .now) (at-if1 .if1 .left) _ (at-sample .sample .ensures) _ (at-answer .answer2 .given .1) (at-clear-counts .clear-counts2 .ensures)
+    job-answered (call (start at-if1)) _ _ (at-options-of .options-of .ensures) _ _ _ _ _ (start at-if1 .args .counts .now) (at-if1 .if1 .left) _ (at-no-counts .no-counts .ensures) _ (at-sample .sample .ensures) (at-put-answer .put-answer .ensures)
 
 pub pave-sample-spec : {M : Type 1} → statement M
 pave-sample-spec =
@@ -132,19 +102,11 @@ pave-sample-spec =
     returns
     options-of-requires
     sample-requires
-    enum-known-answer
-    put-counts-requires
-    enum-known-answer-2
-    clear-counts-requires-2
+    no-counts-requires
+    put-answer-requires
     same-length-6
     same-length-7
     same-length-8
     same-length-9
     same-length-10
-    returns-2
-    same-length-11
-    same-length-12
-    same-length-13
-    same-length-14
-    same-length-15
-    returns-3)
+    returns-2)

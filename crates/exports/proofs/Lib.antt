@@ -1,4 +1,0 @@
-pub mod Choices
-pub mod Loops
-pub mod Nodes
-pub mod Slices

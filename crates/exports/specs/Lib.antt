@@ -1,4 +1,0 @@
-pub mod Calls
-pub mod Measures
-pub mod Outline
-pub mod Fronts

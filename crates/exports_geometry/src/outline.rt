@@ -1,0 +1,82 @@
+// The measures of an outline: the coordinates of all loops and the loops' lengths, the outer one first.
+// Where there is one loop, the lengths go on as a slice whose length the compiler knows: it then has only geometry's way of
+// one loop to compile in, and lays nothing in memory.
+ghost use mathlib.Core.Path.{_≡_};
+ghost use Rattle.exports_geometry.specs.Measures.{point};
+ghost use Rattle.exports_geometry.specs.Outline.{areaOr, boundaryOr, containsOrNot, loopsFit};
+use geometry::Point;
+
+// Whether the coordinates have points for loops of these lengths.
+fn loops_fit(coords: &[f64], loop_lengths: &[u16]) -> bool
+    ensures { λ r. ⌜ r ≡ loopsFit (now (coords .entry)) (now («loop_lengths» .entry)) ⌝ }
+{
+    let mut left = coords.len() / 2;
+    let mut k = 0usize;
+    while k < loop_lengths.len() {
+        let n = geometry::wide(loop_lengths[k]);
+        if left < n {
+            return false;
+        }
+        left -= n;
+        k += 1;
+    }
+    true
+}
+
+// The area, where the lengths fit.
+fn area_or_nan(coords: &[f64], loops: &[u16]) -> f64
+    ensures { λ r. ⌜ r ≡ areaOr (now (coords .entry)) (now (loops .entry)) ⌝ }
+{
+    if loops_fit(coords, loops) {
+        return geometry::domain_area(coords, loops);
+    }
+    0.0 / 0.0
+}
+
+// The area within the outer loop and outside the holes; NaN where the lengths ask for more points than there are.
+#[no_mangle]
+pub extern "C" fn pave_domain_area(coords: &[f64], loop_lengths: &[u16]) -> f64
+    ensures { λ r. ⌜ r ≡ areaOr (now (coords .entry)) (now («loop_lengths» .entry)) ⌝ }
+{
+    if loop_lengths.len() == 1 {
+        return area_or_nan(coords, &loop_lengths[0..1]);
+    }
+    area_or_nan(coords, loop_lengths)
+}
+
+// Whether `p` is within, where the lengths fit.
+fn contains_or_not(p: Point, coords: &[f64], loops: &[u16]) -> bool
+    ensures { λ r. ⌜ r ≡ containsOrNot p (now (coords .entry)) (now (loops .entry)) ⌝ }
+{
+    if loops_fit(coords, loops) {
+        return geometry::contains(coords, loops, p);
+    }
+    false
+}
+
+// Whether (x, y) is within the outer loop and outside every hole; false where the lengths ask for more points than there are.
+#[no_mangle]
+pub extern "C" fn pave_contains(x: f64, y: f64, coords: &[f64], loop_lengths: &[u16]) -> bool
+    ensures { λ r. ⌜ r ≡ containsOrNot (point x y) (now (coords .entry)) (now («loop_lengths» .entry)) ⌝ }
+{
+    if loop_lengths.len() == 1 {
+        return contains_or_not(Point { x, y }, coords, &loop_lengths[0..1]);
+    }
+    contains_or_not(Point { x, y }, coords, loop_lengths)
+}
+
+// The distance from (x, y) to the nearest side; NaN where the lengths ask for more points than there are.
+#[no_mangle]
+pub extern "C" fn pave_distance_to_boundary(
+    x: f64,
+    y: f64,
+    coords: &[f64],
+    loop_lengths: &[u16],
+) -> f64
+    ensures { λ r. ⌜ r ≡ boundaryOr (point x y) (now (coords .entry)) (now («loop_lengths» .entry)) ⌝ }
+{
+    if loops_fit(coords, loop_lengths) {
+        return geometry::distance_to_boundary(coords, loop_lengths, Point { x, y });
+    }
+    0.0 / 0.0
+}
