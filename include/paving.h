@@ -15,8 +15,9 @@
  * Threads: no call keeps anything between calls, and none reads or writes anything but what it is lent. Any number of threads
  * may call at once, each with buffers of its own.
  *
- * Stack: a call works on the caller's stack and takes no other memory.
- *   TO BE FILLED IN: the measured stack need of each call.
+ * Stack: a call works on the caller's stack and takes no other memory. The most that was measured (oracle/compare stack, over
+ * 2,019 jobs and 6,016 states, in threads of 256 KiB): pave_job 100,079 bytes, pave_sample 66,751, pave_row 38,103, pave_fan
+ * 5,319, pave_close 5,095, and each call of paving_geometry.h at most 351.
  */
 #ifndef PAVING_H
 #define PAVING_H
