@@ -5,7 +5,9 @@
 //! compare rows SEED COUNT        a row on each of COUNT states, sound and damaged
 //! compare close SEED COUNT       the closings of COUNT states, sound and damaged
 //! compare fan SEED COUNT         a fan on each of COUNT states, sound and damaged
-//! compare job SEED COUNT         COUNT whole jobs, and a row, the closings and a fan on two states made from each answer
+//! compare job SEED COUNT         COUNT whole jobs and a tenth as many near the limits, and on what each left a fan, rows and the
+//!                                closings, and the three on a state made from it; the jobs by name; and on the port's own
+//!                                answers demand 3: a tenth as many pairs of pass limits, with pair counts and corners
 //!
 //! Every bit of the port's answers and every place of the lent buffers against the Rust's. The exit status is not 0 when
 //! one differs, or when a kind of answer that a call can give did not come up in 10,000 or more; for the closings and the
@@ -17,20 +19,27 @@ mod port;
 mod root;
 
 use oracle::compare::{self, Report};
-use oracle::generate;
+use oracle::{demands, generate};
 use std::process::exit;
 
-fn told(report: Report, numbers: &[u8], seen: &[&str], count: u64) -> bool {
+/// The numbers that each of some calls has to have answered.
+type Numbers<'a> = &'a [(&'a str, &'a [u8])];
+
+fn told(report: Report, numbers: Numbers, seen: &[&str], count: u64) -> bool {
     print!("{}", report.text());
-    let missing = report.missing(numbers);
-    if !missing.is_empty() {
-        println!("no answer had the number {missing:?}");
+    let mut all = true;
+    for (call, numbers) in numbers {
+        let missing = report.missing(call, numbers);
+        if !missing.is_empty() {
+            println!("no answer of {call} had the number {missing:?}");
+            all = false;
+        }
     }
     let unseen = report.unseen(seen);
     if !unseen.is_empty() {
         println!("did not come up: {unseen:?}");
     }
-    report.different == 0 && (missing.is_empty() && unseen.is_empty() || count < 10_000)
+    report.different == 0 && (all && unseen.is_empty() || count < 10_000)
 }
 
 fn other_counts(seed: u64) -> bool {
@@ -40,23 +49,40 @@ fn other_counts(seed: u64) -> bool {
 }
 
 fn sample(seed: u64, count: u64) -> bool {
-    told(compare::samples(&mut paver::Port, seed, count), &compare::SAMPLE_NUMBERS, &[], count) & other_counts(seed)
+    told(compare::samples(&mut paver::Port, seed, count), &[("sample", &compare::SAMPLE_NUMBERS)], &[], count) & other_counts(seed)
 }
 
 fn rows(seed: u64, count: u64) -> bool {
-    told(compare::rows(&mut paver::Port, seed, count), &compare::ROW_NUMBERS, &[], count) & other_counts(seed)
+    told(compare::rows(&mut paver::Port, seed, count), &[("row", &compare::ROW_NUMBERS)], &[], count) & other_counts(seed)
 }
 
 fn close(seed: u64, count: u64) -> bool {
-    told(compare::closings(&mut paver::Port, seed, count), &compare::CLOSE_NUMBERS, &compare::CLOSE_SEEN, count) & other_counts(seed)
+    told(compare::closings(&mut paver::Port, seed, count), &[("closings", &compare::CLOSE_NUMBERS)], &compare::CLOSE_SEEN, count) & other_counts(seed)
 }
 
 fn fan(seed: u64, count: u64) -> bool {
-    told(compare::fans(&mut paver::Port, seed, count), &compare::FAN_NUMBERS, &compare::FAN_SEEN, count) & other_counts(seed)
+    told(compare::fans(&mut paver::Port, seed, count), &[("fan", &compare::FAN_NUMBERS)], &compare::FAN_SEEN, count) & other_counts(seed)
 }
 
 fn job(seed: u64, count: u64) -> bool {
-    told(compare::run(&mut paver::Port, seed, count), &compare::ALL_NUMBERS, &[], count) & other_counts(seed)
+    const NUMBERS: Numbers =
+        &[("job", &compare::JOB_NUMBERS), ("row", &compare::ROW_NUMBERS), ("closings", &compare::CLOSE_NUMBERS), ("fan", &compare::FAN_NUMBERS)];
+    told(compare::run(&mut paver::Port, seed, count), NUMBERS, &[], count) & other_counts(seed) & named() & demand(seed, count / 10)
+}
+
+/// The jobs by name, each with what it has to reach.
+fn named() -> bool {
+    let (report, text, short) = compare::named(&mut paver::Port);
+    println!("jobs by name, with their counts or number:\n{text}{}", report.text());
+    short.iter().for_each(|name| println!("NOT REACHED {name}"));
+    report.different == 0 && short.is_empty()
+}
+
+/// Demand 3 on the port's own answers.
+fn demand(seed: u64, count: u64) -> bool {
+    let report = demands::pairs(&mut paver::Port, seed, count);
+    println!("demand 3 on the port's own answers, {count} pairs of pass limits:\n{}", report.text().trim_end());
+    report.exceptions.is_empty()
 }
 
 fn main() {

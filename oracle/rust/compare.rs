@@ -2,8 +2,9 @@
 //! every buffer, f64 by their bits; and the time of both on the same work.
 
 use crate::calls::{self, Buffers, Counts, Job};
+use crate::extremes::{self, Reached};
 use crate::fronts;
-use crate::generate::{self, Random};
+use crate::generate::{self, Made, Random};
 use crate::requests::{job_lines, state_lines};
 use crate::states::{self, State};
 use std::collections::BTreeMap;
@@ -48,6 +49,8 @@ pub struct Report {
     pub compared: BTreeMap<String, BTreeMap<u8, u64>>,
     /// What else came up, as the oracle's own functions say.
     pub seen: BTreeMap<String, u64>,
+    /// The most of something in one answer.
+    pub most: BTreeMap<&'static str, usize>,
     pub different: u64,
     pub differences: Vec<String>,
     pub oracle_time: Duration,
@@ -55,16 +58,23 @@ pub struct Report {
 }
 
 impl Report {
-    /// How often each number came up.
-    fn numbers(&self) -> BTreeMap<u8, u64> {
-        let mut out = BTreeMap::new();
-        for (number, n) in self.compared.values().flatten() {
-            *out.entry(*number).or_insert(0) += n;
+    /// How often each number came up, from each call.
+    fn numbers(&self) -> BTreeMap<&str, BTreeMap<u8, u64>> {
+        let mut out: BTreeMap<&str, BTreeMap<u8, u64>> = BTreeMap::new();
+        for (what, numbers) in &self.compared {
+            let call = what.split(',').next().unwrap_or_default();
+            for (number, n) in numbers {
+                *out.entry(call).or_default().entry(*number).or_insert(0) += n;
+            }
         }
         out
     }
 
-    /// A line for each kind with its numbers, then all numbers, and what else came up.
+    pub fn all(&self) -> u64 {
+        self.compared.values().flat_map(BTreeMap::values).sum()
+    }
+
+    /// A line for each kind with its numbers, then all numbers of each call, and what else came up.
     pub fn text(&self) -> String {
         let list = |numbers: &BTreeMap<u8, u64>| -> String {
             let words: Vec<String> = numbers.iter().map(|(number, n)| format!("{number:02} {n}")).collect();
@@ -80,20 +90,27 @@ impl Report {
         if self.different > TOLD {
             out += &format!("{} more differences\n", self.different - TOLD);
         }
-        out += &format!("numbers: {}\n", list(&self.numbers()));
+        for (call, numbers) in self.numbers() {
+            out += &format!("numbers of {call}: {}\n", list(&numbers));
+        }
         if !self.seen.is_empty() {
             let words: Vec<String> = self.seen.iter().map(|(what, n)| format!("{what} {n}")).collect();
             out += &format!("seen: {}\n", words.join(", "));
         }
+        if !self.most.is_empty() {
+            let words: Vec<String> = self.most.iter().map(|(what, n)| format!("{what} {n}")).collect();
+            out += &format!("at most: {}\n", words.join(", "));
+        }
         let (port, rust) = (self.port_time.as_secs_f64(), self.oracle_time.as_secs_f64());
         out += &format!("port {port:.3} s, Rust {rust:.3} s, ratio {:.3}\n", port / rust);
-        out + &format!("{} compared, {} differences\n", self.numbers().values().sum::<u64>(), self.different)
+        out + &format!("{} compared, {} differences\n", self.all(), self.different)
     }
 
-    /// Those of some numbers that no answer had.
-    pub fn missing(&self, numbers: &[u8]) -> Vec<u8> {
-        let given = self.numbers();
-        numbers.iter().filter(|n| !given.contains_key(n)).copied().collect()
+    /// Those of some numbers that no answer of a call had.
+    pub fn missing(&self, call: &str, numbers: &[u8]) -> Vec<u8> {
+        let all = self.numbers();
+        let given = all.get(call);
+        numbers.iter().filter(|n| !given.is_some_and(|given| given.contains_key(n))).copied().collect()
     }
 
     /// Those of some things that did not come up.
@@ -102,7 +119,16 @@ impl Report {
     }
 
     fn see(&mut self, what: impl Into<String>) {
-        *self.seen.entry(what.into()).or_insert(0) += 1;
+        self.see_many(what, 1);
+    }
+
+    fn see_many(&mut self, what: impl Into<String>, n: u64) {
+        *self.seen.entry(what.into()).or_insert(0) += n;
+    }
+
+    fn at_most(&mut self, what: &'static str, n: usize) {
+        let most = self.most.entry(what).or_insert(0);
+        *most = n.max(*most);
     }
 }
 
@@ -422,38 +448,105 @@ fn see_fan(report: &mut Report, job: &Job, before: &State, after: &State) {
     assert!(after.buffers.point(before.counts.points) == best.0, "the centre by the single functions is that of the Rust");
 }
 
-/// The numbers that the calls can answer. (A job's own are those of its sampling, and 21.)
-pub const ALL_NUMBERS: [u8; 19] = [0, 1, 2, 3, 4, 5, 6, 7, 8, 9, 10, 20, 21, 22, 23, 24, 25, 26, 27];
+/// The numbers that a job can answer.
+pub const JOB_NUMBERS: [u8; 12] = [0, 1, 2, 3, 4, 5, 6, 7, 8, 9, 10, 21];
 
-/// Jobs 0 to `count` of a seed, and calls on states made from each.
+/// Jobs 0 to `count` of a seed and a tenth as many near the limits, and calls on what each left and on a state made from it.
 pub fn run(port: &mut dyn Paver, seed: u64, count: u64) -> Report {
     let mut report = Report::default();
     for index in 0..count {
-        let mut made = generate::job(seed, index);
-        narrow(&mut made.job);
-        let r = &mut Random::new(seed ^ 0xC0FFEE, index);
-        let name = format!("seed {seed} job {index}");
-        let mut lent = State { buffers: states::noise(r), counts: Counts::default() };
-        if r.chance(2) {
-            shorten(r, &mut lent.buffers);
-        }
-        let (_, answer) = both(&mut report, port, Call::Job, &made.job, &lent, "whole", &name);
-        if answer.buffers.points.len() != calls::POINTS || !answer.buffers.fits() {
-            continue;
-        }
-        for _ in 0..2 {
-            let (mut s, kind) = states::state(r, &made.job, &answer);
-            if r.chance(2) {
-                shorten(r, &mut s.buffers);
-            }
-            let fronts = s.counts.fronts.clamp(1, 17);
-            let front = if r.chance(95) { r.below(fronts) } else { r.pick(&[fronts, 16, usize::MAX]) };
-            for call in [Call::Row(front), Call::Close, Call::Fan] {
-                both(&mut report, port, call, &made.job, &s, kind, &name);
-            }
+        job_and_after(&mut report, port, generate::job(seed, index), "generator", seed, index);
+        if index % 10 == 9 {
+            job_and_after(&mut report, port, extremes::near(seed, index / 10), "near the limits", seed, index / 10);
         }
     }
     report
+}
+
+/// A job into buffers that held anything; then on what it left, with anything behind, a fan, rows on two fronts and the
+/// closings; then the three on another state.
+pub fn job_and_after(report: &mut Report, port: &mut dyn Paver, mut made: Made, from: &'static str, seed: u64, index: u64) {
+    narrow(&mut made.job);
+    let r = &mut Random::new(seed ^ 0xC0FFEE, index);
+    let name = format!("seed {seed} job {index}, {from} ({}, {})", made.shape, made.change);
+    let mut lent = State { buffers: states::noise(r), counts: Counts::default() };
+    if r.chance(2) {
+        shorten(r, &mut lent.buffers);
+    }
+    let (number, answer) = both(report, port, Call::Job, &made.job, &lent, from, &name);
+    if !answer.buffers.fits() {
+        return;
+    }
+    if number == 0 {
+        see_job(report, &answer.counts);
+        let held = states::with_noise(r, &answer);
+        let fronts = answer.counts.fronts;
+        let first = r.below(fronts.max(1));
+        both(report, port, Call::Fan, &made.job, &held, "on the answer", &name);
+        both(report, port, Call::Row(first), &made.job, &held, "on the answer", &name);
+        if fronts > 1 {
+            both(report, port, Call::Row((first + 1) % fronts), &made.job, &held, "on the answer", &name);
+        }
+        both(report, port, Call::Close, &made.job, &held, "on the answer", &name);
+    }
+    let (mut s, kind) = states::state(r, &made.job, &answer);
+    if r.chance(2) {
+        shorten(r, &mut s.buffers);
+    }
+    let fronts = s.counts.fronts.clamp(1, 17);
+    let front = if r.chance(95) { r.below(fronts) } else { r.pick(&[fronts, 16, usize::MAX]) };
+    for call in [Call::Row(front), Call::Close, Call::Fan] {
+        both(report, port, call, &made.job, &s, kind, &name);
+    }
+}
+
+/// What an accepted job came to.
+fn see_job(report: &mut Report, c: &Counts) {
+    report.see("jobs accepted");
+    if c.row_rounds > 0 {
+        report.see("jobs that laid rows");
+        report.see_many("rows laid", c.row_rounds as u64);
+    }
+    if c.row_rounds > 0 && c.fronts > 1 {
+        report.see("jobs that laid rows and left several fronts");
+    }
+    if c.row_quads > c.laid {
+        report.see("jobs that closed a front");
+    }
+    for (what, n) in [("passes", c.passes), ("rows", c.row_rounds), ("points", c.points), ("quads", c.quads), ("fronts left", c.fronts)] {
+        report.at_most(what, n);
+    }
+}
+
+/// The jobs and states by name: what each came to, a line for each, and those that did not reach what they are for.
+pub fn named(port: &mut dyn Paver) -> (Report, String, Vec<&'static str>) {
+    let (mut report, mut text, mut short) = (Report::default(), String::new(), Vec::new());
+    let r = &mut Random::new(7, 7);
+    for case in extremes::named() {
+        let lent = State { buffers: states::noise(r), counts: Counts::default() };
+        let (_, sampled) = both(&mut report, port, Call::Sample, &case.job, &lent, "by name", case.name);
+        let (number, answer) = both(&mut report, port, Call::Job, &case.job, &lent, "by name", case.name);
+        let reached = Reached { sampled: &sampled, number, answer: &answer };
+        text += &format!("  {}: {}\n", case.name, if number == 0 { format!("{:?}", answer.counts.list()) } else { format!("refused {number}") });
+        if !(case.reached)(&reached) {
+            short.push(case.name);
+        }
+        if number == 0 {
+            let held = states::with_noise(r, &answer);
+            both(&mut report, port, Call::Fan, &case.job, &held, "by name", case.name);
+            for front in 0..answer.counts.fronts {
+                both(&mut report, port, Call::Row(front), &case.job, &held, "by name", case.name);
+            }
+        }
+    }
+    for case in extremes::closing_states() {
+        let (number, _) = both(&mut report, port, Call::Close, &case.job, &states::with_noise(r, &case.state), "by name", case.name);
+        text += &format!("  {}: {number}\n", case.name);
+        if number != case.number {
+            short.push(case.name);
+        }
+    }
+    (report, text, short)
 }
 
 /// A paver with one fault: a comparison that does not see it shows nothing.

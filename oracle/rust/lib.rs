@@ -14,6 +14,7 @@ mod cut;
 pub mod calls;
 pub mod compare;
 pub mod demands;
+pub mod extremes;
 pub mod faults;
 pub mod fronts;
 pub mod functions;

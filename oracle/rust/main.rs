@@ -50,7 +50,7 @@ fn main() {
         }
         (Some("demands"), 3) => {
             let (seed, count) = seed_and_count(&words[1..]);
-            let report = demands::run(seed, count);
+            let report = demands::run(&mut compare::Oracle, seed, count);
             print(&report.text());
             exit(if report.exceptions.is_empty() { 0 } else { 1 })
         }

@@ -14,9 +14,12 @@ pub struct State {
 pub fn noise(r: &mut Random) -> Buffers {
     let mut b = Buffers::new();
     b.points.iter_mut().for_each(|x| *x = f64::from_bits(r.next()));
-    b.quads.iter_mut().for_each(|x| *x = r.next() as u16);
-    b.front_nodes.iter_mut().for_each(|x| *x = r.next() as u16);
-    b.front_lengths.iter_mut().for_each(|x| *x = r.next() as u16);
+    for list in [&mut b.quads, &mut b.front_nodes, &mut b.front_lengths] {
+        for four in list.chunks_mut(4) {
+            let x = r.next();
+            four.iter_mut().enumerate().for_each(|(k, place)| *place = (x >> (16 * k)) as u16);
+        }
+    }
     b
 }
 
