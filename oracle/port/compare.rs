@@ -8,15 +8,23 @@
 //! compare job SEED COUNT         COUNT whole jobs and a tenth as many near the limits, and on what each left a fan, rows and the
 //!                                closings, and the three on a state made from it; the jobs by name; and on the port's own
 //!                                answers demand 3: a tenth as many pairs of pass limits, with pair counts and corners
+//! compare guard SEED COUNT       COUNT jobs, and calls on states made from them, on memory with pages that may not be touched
+//! compare threads SEED COUNT     the same calls by two threads at once
+//! compare stack [SEED COUNT]     how much stack each call takes, on the jobs by name and on COUNT jobs
 //!
 //! Every bit of the port's answers and every place of the lent buffers against the Rust's. The exit status is not 0 when
 //! one differs, or when a kind of answer that a call can give did not come up in 10,000 or more; for the closings and the
 //! fan, also when no splits or clearances tied in them.
 
 mod functions;
+mod guard;
+mod memory;
 mod paver;
 mod port;
 mod root;
+mod stack;
+mod threads;
+mod work;
 
 use oracle::compare::{self, Report};
 use oracle::{demands, generate};
@@ -90,6 +98,9 @@ fn main() {
     if words.len() == 2 {
         words.insert(0, "all".to_string());
     }
+    if words == ["stack"] {
+        words.extend(["1", "2000"].map(str::to_string));
+    }
     let numbers: Option<Vec<u64>> = words.iter().skip(1).map(|w| w.parse().ok()).collect();
     let Some(&[seed, count]) = numbers.as_deref() else { stop() };
     let good = match words[0].as_str() {
@@ -100,6 +111,9 @@ fn main() {
         "close" => close(seed, count),
         "fan" => fan(seed, count),
         "job" => job(seed, count),
+        "guard" => guard::run(seed, count),
+        "threads" => threads::run(seed, count),
+        "stack" => stack::run(seed, count),
         "all" => [root::run, functions::run, sample, rows, close, fan, job].into_iter().fold(true, |good, part| part(seed, count) & good),
         _ => stop(),
     };
@@ -107,6 +121,6 @@ fn main() {
 }
 
 fn stop() -> ! {
-    eprintln!("compare [root|functions|sample|rows|close|fan|job] SEED COUNT");
+    eprintln!("compare [root|functions|sample|rows|close|fan|job|guard|threads|stack] SEED COUNT");
     exit(2)
 }

@@ -141,7 +141,20 @@ pub enum Call {
     Fan,
 }
 
-fn perform(p: &mut dyn Paver, call: Call, job: &Job, s: &State) -> (u8, State, Duration) {
+impl Call {
+    pub fn word(self) -> &'static str {
+        match self {
+            Call::Sample => "sample",
+            Call::Job => "job",
+            Call::Row(_) => "row",
+            Call::Close => "closings",
+            Call::Fan => "fan",
+        }
+    }
+}
+
+/// A call on a copy of a state: its number, what it left and how long it took.
+pub fn perform(p: &mut dyn Paver, call: Call, job: &Job, s: &State) -> (u8, State, Duration) {
     let mut s = s.clone();
     let start = Instant::now();
     let (n, counts) = match call {
@@ -157,7 +170,7 @@ fn perform(p: &mut dyn Paver, call: Call, job: &Job, s: &State) -> (u8, State, D
 }
 
 /// The first thing in which two answers differ.
-fn difference(a: &(u8, State, Duration), b: &(u8, State, Duration)) -> Option<String> {
+pub fn difference(a: &(u8, State, Duration), b: &(u8, State, Duration)) -> Option<String> {
     if a.0 != b.0 {
         return Some(format!("number {} and not {}", b.0, a.0));
     }
@@ -182,13 +195,7 @@ fn place(name: &str, x: &[u16], y: &[u16]) -> Option<String> {
 fn both(report: &mut Report, port: &mut dyn Paver, call: Call, job: &Job, s: &State, kind: &str, name: &str) -> (u8, State) {
     let a = perform(&mut Oracle, call, job, s);
     let b = perform(port, call, job, s);
-    let word = match call {
-        Call::Sample => "sample",
-        Call::Job => "job",
-        Call::Row(_) => "row",
-        Call::Close => "closings",
-        Call::Fan => "fan",
-    };
+    let word = call.word();
     *report.compared.entry(format!("{word}, {kind}")).or_default().entry(a.0).or_insert(0) += 1;
     report.oracle_time += a.2;
     report.port_time += b.2;
@@ -200,17 +207,6 @@ fn both(report: &mut Report, port: &mut dyn Paver, call: Call, job: &Job, s: &St
         }
     }
     (a.0, a.1)
-}
-
-/// A buffer of another length, now and then.
-fn shorten(r: &mut Random, b: &mut Buffers) {
-    match r.below(5) {
-        0 => drop(b.points.pop()),
-        1 => drop(b.quads.pop()),
-        2 => b.front_nodes.push(7),
-        3 => b.front_lengths.clear(),
-        _ => b.points.push(1.0),
-    }
 }
 
 /// Loop lengths that a u16 cannot hold become the largest that it can.
@@ -230,7 +226,7 @@ pub fn samples(port: &mut dyn Paver, seed: u64, count: u64) -> Report {
         let r = &mut Random::new(seed ^ 0xC0FFEE, index);
         let mut lent = State { buffers: states::noise(r), counts: Counts::default() };
         if r.chance(2) {
-            shorten(r, &mut lent.buffers);
+            states::shorten(r, &mut lent.buffers);
         }
         both(&mut report, port, Call::Sample, &made.job, &lent, made.change, &format!("seed {seed} job {index}"));
     }
@@ -295,7 +291,7 @@ pub fn rows(port: &mut dyn Paver, seed: u64, count: u64) -> Report {
         ask(&made.job, &s, r.pick(&[fronts, fronts + 1, 16, usize::MAX]), "no such front");
         if r.chance(5) {
             let mut short = s.clone();
-            shorten(r, &mut short.buffers);
+            states::shorten(r, &mut short.buffers);
             ask(&made.job, &short, 0, "a buffer's length");
         }
     }
@@ -356,7 +352,7 @@ fn on_states(port: &mut dyn Paver, call: Call, seed: u64, count: u64) -> Report 
             match r.below(100) {
                 0..=15 => (given, kind) = states::one_fault(r, &given),
                 16 => {
-                    shorten(r, &mut given.buffers);
+                    states::shorten(r, &mut given.buffers);
                     kind = "a buffer's length";
                 }
                 _ => {}
@@ -471,7 +467,7 @@ pub fn job_and_after(report: &mut Report, port: &mut dyn Paver, mut made: Made, 
     let name = format!("seed {seed} job {index}, {from} ({}, {})", made.shape, made.change);
     let mut lent = State { buffers: states::noise(r), counts: Counts::default() };
     if r.chance(2) {
-        shorten(r, &mut lent.buffers);
+        states::shorten(r, &mut lent.buffers);
     }
     let (number, answer) = both(report, port, Call::Job, &made.job, &lent, from, &name);
     if !answer.buffers.fits() {
@@ -491,7 +487,7 @@ pub fn job_and_after(report: &mut Report, port: &mut dyn Paver, mut made: Made, 
     }
     let (mut s, kind) = states::state(r, &made.job, &answer);
     if r.chance(2) {
-        shorten(r, &mut s.buffers);
+        states::shorten(r, &mut s.buffers);
     }
     let fronts = s.counts.fronts.clamp(1, 17);
     let front = if r.chance(95) { r.below(fronts) } else { r.pick(&[fronts, 16, usize::MAX]) };

@@ -41,6 +41,17 @@ pub fn with_noise(r: &mut Random, s: &State) -> State {
     State { buffers: b, counts: c }
 }
 
+/// One of the buffers of another length.
+pub fn shorten(r: &mut Random, b: &mut Buffers) {
+    match r.below(5) {
+        0 => drop(b.points.pop()),
+        1 => drop(b.quads.pop()),
+        2 => b.front_nodes.push(7),
+        3 => b.front_lengths.clear(),
+        _ => b.points.push(1.0),
+    }
+}
+
 fn polygon(r: &mut Random, n: usize, centre: [f64; 2], radius: f64) -> Vec<[f64; 2]> {
     let rough = r.pick(&[0.0, 0.0, 0.05, 0.5]);
     let flat = r.pick(&[1.0, 1.0, 0.5, 0.1]);
