@@ -1,4 +1,4 @@
-//! Memory with pages that may not be touched, from the C library.
+//! Memory with pages that may not be touched, and the time used, from the C library.
 
 use std::ffi::c_void;
 
@@ -10,6 +10,7 @@ extern "C" {
     fn fork() -> i32;
     fn waitpid(child: i32, status: *mut i32, options: i32) -> i32;
     fn _exit(status: i32) -> !;
+    fn clock_gettime(clock: i32, time: *mut [i64; 2]) -> i32;
 }
 
 const NONE: i32 = 0;
@@ -19,6 +20,7 @@ const PRIVATE_ANONYMOUS: i32 = 0x22;
 const PAGE_SIZE: i32 = 30;
 const SEGMENT_FAULT: i32 = 11;
 const BUS_FAULT: i32 = 7;
+const PROCESS_TIME: i32 = 2;
 
 fn page() -> usize {
     unsafe { sysconf(PAGE_SIZE) as usize }
@@ -112,4 +114,11 @@ pub fn stopped(touch: impl Fn()) -> bool {
         let mut status = 0;
         child > 0 && waitpid(child, &mut status, 0) == child && matches!(status & 0x7f, SEGMENT_FAULT | BUS_FAULT)
     }
+}
+
+/// The processor's seconds that this process has used.
+pub fn processor_seconds() -> f64 {
+    let mut time = [0; 2];
+    unsafe { clock_gettime(PROCESS_TIME, &mut time) };
+    time[0] as f64 + 1e-9 * time[1] as f64
 }

@@ -5,7 +5,7 @@ use crate::calls::{self, Buffers, Counts, Job};
 use crate::extremes::{self, Reached};
 use crate::fronts;
 use crate::generate::{self, Made, Random};
-use crate::requests::{job_lines, state_lines};
+use crate::requests::{job_lines, state_lines, Case};
 use crate::states::{self, State};
 use std::collections::BTreeMap;
 use std::time::{Duration, Instant};
@@ -53,6 +53,8 @@ pub struct Report {
     pub most: BTreeMap<&'static str, usize>,
     pub different: u64,
     pub differences: Vec<String>,
+    /// The first of them, with what was given.
+    pub first: Option<Case>,
     pub oracle_time: Duration,
     pub port_time: Duration,
 }
@@ -74,12 +76,28 @@ impl Report {
         self.compared.values().flat_map(BTreeMap::values).sum()
     }
 
+    /// The numbers of one call.
+    pub fn numbers_of(&self, call: &str) -> String {
+        self.numbers().get(call).map(list).unwrap_or_default()
+    }
+
+    /// What another report has, added to this one.
+    pub fn add(&mut self, other: Report) {
+        for (what, numbers) in other.compared {
+            let here = self.compared.entry(what).or_default();
+            numbers.into_iter().for_each(|(number, n)| *here.entry(number).or_insert(0) += n);
+        }
+        other.seen.into_iter().for_each(|(what, n)| self.see_many(what, n));
+        other.most.into_iter().for_each(|(what, n)| self.at_most(what, n));
+        self.different += other.different;
+        self.differences.extend(other.differences);
+        self.first = self.first.take().or(other.first);
+        self.oracle_time += other.oracle_time;
+        self.port_time += other.port_time;
+    }
+
     /// A line for each kind with its numbers, then all numbers of each call, and what else came up.
     pub fn text(&self) -> String {
-        let list = |numbers: &BTreeMap<u8, u64>| -> String {
-            let words: Vec<String> = numbers.iter().map(|(number, n)| format!("{number:02} {n}")).collect();
-            words.join(", ")
-        };
         let mut out = String::new();
         for (what, numbers) in &self.compared {
             out += &format!("{:>10}  {what}: {}\n", numbers.values().sum::<u64>(), list(numbers));
@@ -118,7 +136,7 @@ impl Report {
         things.iter().filter(|what| !self.seen.contains_key(**what)).copied().collect()
     }
 
-    fn see(&mut self, what: impl Into<String>) {
+    pub fn see(&mut self, what: impl Into<String>) {
         self.see_many(what, 1);
     }
 
@@ -130,6 +148,11 @@ impl Report {
         let most = self.most.entry(what).or_insert(0);
         *most = n.max(*most);
     }
+}
+
+fn list(numbers: &BTreeMap<u8, u64>) -> String {
+    let words: Vec<String> = numbers.iter().map(|(number, n)| format!("{number:02} {n}")).collect();
+    words.join(", ")
 }
 
 #[derive(Clone, Copy, PartialEq)]
@@ -192,7 +215,7 @@ fn place(name: &str, x: &[u16], y: &[u16]) -> Option<String> {
 }
 
 /// One call of both on the same state: the oracle's number and what it left.
-fn both(report: &mut Report, port: &mut dyn Paver, call: Call, job: &Job, s: &State, kind: &str, name: &str) -> (u8, State) {
+pub fn both(report: &mut Report, port: &mut dyn Paver, call: Call, job: &Job, s: &State, kind: &str, name: &str) -> (u8, State) {
     let a = perform(&mut Oracle, call, job, s);
     let b = perform(port, call, job, s);
     let word = call.word();
@@ -201,6 +224,7 @@ fn both(report: &mut Report, port: &mut dyn Paver, call: Call, job: &Job, s: &St
     report.port_time += b.2;
     if let Some(d) = difference(&a, &b) {
         report.different += 1;
+        report.first.get_or_insert_with(|| Case { call, job: job.clone(), state: s.clone() });
         if report.different <= TOLD {
             let state = if matches!(call, Call::Sample | Call::Job) { String::new() } else { state_lines(&s.buffers, &s.counts) };
             report.differences.push(format!("{name}, {word} ({kind}): {d}\n{}{state}", job_lines(job)));
@@ -210,7 +234,7 @@ fn both(report: &mut Report, port: &mut dyn Paver, call: Call, job: &Job, s: &St
 }
 
 /// Loop lengths that a u16 cannot hold become the largest that it can.
-fn narrow(job: &mut Job) {
+pub fn narrow(job: &mut Job) {
     job.lengths.iter_mut().for_each(|n| *n = (*n).min(65_535));
 }
 
@@ -497,7 +521,7 @@ pub fn job_and_after(report: &mut Report, port: &mut dyn Paver, mut made: Made, 
 }
 
 /// What an accepted job came to.
-fn see_job(report: &mut Report, c: &Counts) {
+pub fn see_job(report: &mut Report, c: &Counts) {
     report.see("jobs accepted");
     if c.row_rounds > 0 {
         report.see("jobs that laid rows");

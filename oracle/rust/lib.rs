@@ -20,9 +20,14 @@ pub mod fronts;
 pub mod functions;
 pub mod generate;
 pub mod limits;
+pub mod met;
+pub mod mixed;
 pub mod quality;
+pub mod reduce;
 pub mod requests;
+pub mod rounds;
 pub mod states;
 pub mod text;
+pub mod wrong;
 
 pub use cut::alt_paving::Options;
