@@ -475,7 +475,7 @@ pub const JOB_NUMBERS: [u8; 12] = [0, 1, 2, 3, 4, 5, 6, 7, 8, 9, 10, 21];
 pub fn run(port: &mut dyn Paver, seed: u64, count: u64) -> Report {
     let mut report = Report::default();
     for index in 0..count {
-        job_and_after(&mut report, port, generate::job(seed, index), "generator", seed, index);
+        job_and_after(&mut report, port, generate::sampling_job(seed, index), "generator", seed, index);
         if index % 10 == 9 {
             job_and_after(&mut report, port, extremes::near(seed, index / 10), "near the limits", seed, index / 10);
         }
