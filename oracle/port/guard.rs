@@ -28,7 +28,7 @@ struct Pages {
 // What was asked last: the seed, the job, the call and the fence.
 static ASKED: [AtomicU64; 4] = [const { AtomicU64::new(0) }; 4];
 
-const WORDS: [&str; 6] = ["sample", "job", "row", "closings", "fan", "the geometry"];
+const WORDS: [&str; 7] = ["sample", "job", "row", "closings", "fan", "the geometry", "text"];
 
 extern "C" fn touched(_: i32) {
     let [seed, index, call, fence] = [0, 1, 2, 3].map(|i| ASKED[i].load(Relaxed));
@@ -177,5 +177,13 @@ pub fn run(seed: u64, count: u64) -> bool {
         println!("a page {name} each list: {count} jobs, {all} calls ({}) and {measures} of the geometry, none stopped", words.join(", "));
     }
     println!("{different} differences");
-    made == ended && different == 0
+    #[cfg(text)]
+    let texts = crate::text::guarded(seed, count, |index, fence| {
+        for (told, x) in ASKED.iter().zip([seed, index, 6, (fence == Fence::Behind) as u64]) {
+            told.store(x, Relaxed);
+        }
+    });
+    #[cfg(not(text))]
+    let texts = true;
+    made == ended && different == 0 && texts
 }
