@@ -83,15 +83,14 @@ pub struct Named {
 
 /// The jobs by name.
 ///
-/// No job reaches 21 by its closings: with S sampled nodes, rows that stand left at most 4,096 points and so 4,096 - S quads;
-/// a front has as many nodes as its sampled loop, and closing it adds a quad for four nodes or two for six, so at most S / 3.
-/// The last two come as near as there is: a job of 4,096 points whose front of six is closed, and (see `closing_states`)
-/// single calls that are refused.
+/// No job reaches 21 by its closings. With S sampled nodes, rows leave at most 4,096 points and so at most 4,096 - S quads; a
+/// front has as many nodes as its sampled loop, and closing it adds one quad for four nodes or two for six, in all at most
+/// S / 3. So only the call for closings is refused so (`closing_states`).
 pub fn named() -> Vec<Named> {
     let disc = |n: usize, radius: f64| job_of(whole(vec![ring(n, radius)]), 1_000.0);
     let large = job_of(vec![square(0.0, 0.0, 515_800.0)], 1_000.0);
     let strip = |pairs: usize| {
-        // two rows of points a size apart, and a size between them
+        // two rows of points so near to each other that none come between
         let half = pairs / 2;
         let mut points: Loop = (0..half).map(|k| [400.0 * k as f64, 0.0]).collect();
         points.extend((0..pairs - half).rev().map(|k| [400.0 * k as f64, 5_000.0]));
@@ -267,8 +266,6 @@ fn round_of(job: &Job) -> f64 {
     let loops: Vec<Loop> = job.lengths.iter().map(|&n| pairs.by_ref().take(n).collect()).collect();
     loops.iter().map(|l| (0..l.len()).map(|i| crate::functions::segment_length(l[i], l[(i + 1) % l.len()])).sum::<f64>()).sum()
 }
-
-pub const NEAR: [&str; 7] = ["64 passes", "4,096 points, corners", "4,096 points, discs", "2,048 nodes", "16 loops", "2,048 pairs", "16 loops, 4,096 points"];
 
 /// Job `index` of a seed, near one limit or two.
 pub fn near(seed: u64, index: u64) -> Made {
