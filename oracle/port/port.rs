@@ -1,7 +1,7 @@
 //! The port's calls, from the static libraries that `rt staticlib` writes of the crates exports*.
 //! A slice goes over as its address and its length.
 
-mod calls {
+pub mod calls {
     extern "C" {
         pub fn pave_root(x: f64) -> f64;
         pub fn pave_side_length(ax: f64, ay: f64, bx: f64, by: f64) -> f64;

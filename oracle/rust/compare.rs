@@ -2,9 +2,10 @@
 //! every buffer, f64 by their bits; and the time of both on the same work.
 
 use crate::calls::{self, Buffers, Counts, Job};
+use crate::extremes::{self, Reached};
 use crate::fronts;
-use crate::generate::{self, Random};
-use crate::requests::{job_lines, state_lines};
+use crate::generate::{self, Made, Random};
+use crate::requests::{job_lines, state_lines, Case};
 use crate::states::{self, State};
 use std::collections::BTreeMap;
 use std::time::{Duration, Instant};
@@ -48,28 +49,55 @@ pub struct Report {
     pub compared: BTreeMap<String, BTreeMap<u8, u64>>,
     /// What else came up, as the oracle's own functions say.
     pub seen: BTreeMap<String, u64>,
+    /// The most of something in one answer.
+    pub most: BTreeMap<&'static str, usize>,
     pub different: u64,
     pub differences: Vec<String>,
+    /// The first of them, with what was given.
+    pub first: Option<Case>,
     pub oracle_time: Duration,
     pub port_time: Duration,
 }
 
 impl Report {
-    /// How often each number came up.
-    fn numbers(&self) -> BTreeMap<u8, u64> {
-        let mut out = BTreeMap::new();
-        for (number, n) in self.compared.values().flatten() {
-            *out.entry(*number).or_insert(0) += n;
+    /// How often each number came up, from each call.
+    fn numbers(&self) -> BTreeMap<&str, BTreeMap<u8, u64>> {
+        let mut out: BTreeMap<&str, BTreeMap<u8, u64>> = BTreeMap::new();
+        for (what, numbers) in &self.compared {
+            let call = what.split(',').next().unwrap_or_default();
+            for (number, n) in numbers {
+                *out.entry(call).or_default().entry(*number).or_insert(0) += n;
+            }
         }
         out
     }
 
-    /// A line for each kind with its numbers, then all numbers, and what else came up.
+    pub fn all(&self) -> u64 {
+        self.compared.values().flat_map(BTreeMap::values).sum()
+    }
+
+    /// The numbers of one call.
+    pub fn numbers_of(&self, call: &str) -> String {
+        self.numbers().get(call).map(list).unwrap_or_default()
+    }
+
+    /// What another report has, added to this one.
+    pub fn add(&mut self, other: Report) {
+        for (what, numbers) in other.compared {
+            let here = self.compared.entry(what).or_default();
+            numbers.into_iter().for_each(|(number, n)| *here.entry(number).or_insert(0) += n);
+        }
+        other.seen.into_iter().for_each(|(what, n)| self.see_many(what, n));
+        other.most.into_iter().for_each(|(what, n)| self.at_most(what, n));
+        self.different += other.different;
+        self.differences.extend(other.differences);
+        self.first = self.first.take().or(other.first);
+        self.oracle_time += other.oracle_time;
+        self.port_time += other.port_time;
+    }
+
+    /// A line for each kind with its numbers, then all numbers of each call, and what else came up.
     pub fn text(&self) -> String {
-        let list = |numbers: &BTreeMap<u8, u64>| -> String {
-            let words: Vec<String> = numbers.iter().map(|(number, n)| format!("{number:02} {n}")).collect();
-            words.join(", ")
-        };
         let mut out = String::new();
         for (what, numbers) in &self.compared {
             out += &format!("{:>10}  {what}: {}\n", numbers.values().sum::<u64>(), list(numbers));
@@ -80,20 +108,27 @@ impl Report {
         if self.different > TOLD {
             out += &format!("{} more differences\n", self.different - TOLD);
         }
-        out += &format!("numbers: {}\n", list(&self.numbers()));
+        for (call, numbers) in self.numbers() {
+            out += &format!("numbers of {call}: {}\n", list(&numbers));
+        }
         if !self.seen.is_empty() {
             let words: Vec<String> = self.seen.iter().map(|(what, n)| format!("{what} {n}")).collect();
             out += &format!("seen: {}\n", words.join(", "));
         }
+        if !self.most.is_empty() {
+            let words: Vec<String> = self.most.iter().map(|(what, n)| format!("{what} {n}")).collect();
+            out += &format!("at most: {}\n", words.join(", "));
+        }
         let (port, rust) = (self.port_time.as_secs_f64(), self.oracle_time.as_secs_f64());
         out += &format!("port {port:.3} s, Rust {rust:.3} s, ratio {:.3}\n", port / rust);
-        out + &format!("{} compared, {} differences\n", self.numbers().values().sum::<u64>(), self.different)
+        out + &format!("{} compared, {} differences\n", self.all(), self.different)
     }
 
-    /// Those of some numbers that no answer had.
-    pub fn missing(&self, numbers: &[u8]) -> Vec<u8> {
-        let given = self.numbers();
-        numbers.iter().filter(|n| !given.contains_key(n)).copied().collect()
+    /// Those of some numbers that no answer of a call had.
+    pub fn missing(&self, call: &str, numbers: &[u8]) -> Vec<u8> {
+        let all = self.numbers();
+        let given = all.get(call);
+        numbers.iter().filter(|n| !given.is_some_and(|given| given.contains_key(n))).copied().collect()
     }
 
     /// Those of some things that did not come up.
@@ -101,9 +136,23 @@ impl Report {
         things.iter().filter(|what| !self.seen.contains_key(**what)).copied().collect()
     }
 
-    fn see(&mut self, what: impl Into<String>) {
-        *self.seen.entry(what.into()).or_insert(0) += 1;
+    pub fn see(&mut self, what: impl Into<String>) {
+        self.see_many(what, 1);
     }
+
+    fn see_many(&mut self, what: impl Into<String>, n: u64) {
+        *self.seen.entry(what.into()).or_insert(0) += n;
+    }
+
+    fn at_most(&mut self, what: &'static str, n: usize) {
+        let most = self.most.entry(what).or_insert(0);
+        *most = n.max(*most);
+    }
+}
+
+fn list(numbers: &BTreeMap<u8, u64>) -> String {
+    let words: Vec<String> = numbers.iter().map(|(number, n)| format!("{number:02} {n}")).collect();
+    words.join(", ")
 }
 
 #[derive(Clone, Copy, PartialEq)]
@@ -115,7 +164,20 @@ pub enum Call {
     Fan,
 }
 
-fn perform(p: &mut dyn Paver, call: Call, job: &Job, s: &State) -> (u8, State, Duration) {
+impl Call {
+    pub fn word(self) -> &'static str {
+        match self {
+            Call::Sample => "sample",
+            Call::Job => "job",
+            Call::Row(_) => "row",
+            Call::Close => "closings",
+            Call::Fan => "fan",
+        }
+    }
+}
+
+/// A call on a copy of a state: its number, what it left and how long it took.
+pub fn perform(p: &mut dyn Paver, call: Call, job: &Job, s: &State) -> (u8, State, Duration) {
     let mut s = s.clone();
     let start = Instant::now();
     let (n, counts) = match call {
@@ -131,7 +193,7 @@ fn perform(p: &mut dyn Paver, call: Call, job: &Job, s: &State) -> (u8, State, D
 }
 
 /// The first thing in which two answers differ.
-fn difference(a: &(u8, State, Duration), b: &(u8, State, Duration)) -> Option<String> {
+pub fn difference(a: &(u8, State, Duration), b: &(u8, State, Duration)) -> Option<String> {
     if a.0 != b.0 {
         return Some(format!("number {} and not {}", b.0, a.0));
     }
@@ -153,21 +215,16 @@ fn place(name: &str, x: &[u16], y: &[u16]) -> Option<String> {
 }
 
 /// One call of both on the same state: the oracle's number and what it left.
-fn both(report: &mut Report, port: &mut dyn Paver, call: Call, job: &Job, s: &State, kind: &str, name: &str) -> (u8, State) {
+pub fn both(report: &mut Report, port: &mut dyn Paver, call: Call, job: &Job, s: &State, kind: &str, name: &str) -> (u8, State) {
     let a = perform(&mut Oracle, call, job, s);
     let b = perform(port, call, job, s);
-    let word = match call {
-        Call::Sample => "sample",
-        Call::Job => "job",
-        Call::Row(_) => "row",
-        Call::Close => "closings",
-        Call::Fan => "fan",
-    };
+    let word = call.word();
     *report.compared.entry(format!("{word}, {kind}")).or_default().entry(a.0).or_insert(0) += 1;
     report.oracle_time += a.2;
     report.port_time += b.2;
     if let Some(d) = difference(&a, &b) {
         report.different += 1;
+        report.first.get_or_insert_with(|| Case { call, job: job.clone(), state: s.clone() });
         if report.different <= TOLD {
             let state = if matches!(call, Call::Sample | Call::Job) { String::new() } else { state_lines(&s.buffers, &s.counts) };
             report.differences.push(format!("{name}, {word} ({kind}): {d}\n{}{state}", job_lines(job)));
@@ -176,19 +233,8 @@ fn both(report: &mut Report, port: &mut dyn Paver, call: Call, job: &Job, s: &St
     (a.0, a.1)
 }
 
-/// A buffer of another length, now and then.
-fn shorten(r: &mut Random, b: &mut Buffers) {
-    match r.below(5) {
-        0 => drop(b.points.pop()),
-        1 => drop(b.quads.pop()),
-        2 => b.front_nodes.push(7),
-        3 => b.front_lengths.clear(),
-        _ => b.points.push(1.0),
-    }
-}
-
 /// Loop lengths that a u16 cannot hold become the largest that it can.
-fn narrow(job: &mut Job) {
+pub fn narrow(job: &mut Job) {
     job.lengths.iter_mut().for_each(|n| *n = (*n).min(65_535));
 }
 
@@ -204,7 +250,7 @@ pub fn samples(port: &mut dyn Paver, seed: u64, count: u64) -> Report {
         let r = &mut Random::new(seed ^ 0xC0FFEE, index);
         let mut lent = State { buffers: states::noise(r), counts: Counts::default() };
         if r.chance(2) {
-            shorten(r, &mut lent.buffers);
+            states::shorten(r, &mut lent.buffers);
         }
         both(&mut report, port, Call::Sample, &made.job, &lent, made.change, &format!("seed {seed} job {index}"));
     }
@@ -269,7 +315,7 @@ pub fn rows(port: &mut dyn Paver, seed: u64, count: u64) -> Report {
         ask(&made.job, &s, r.pick(&[fronts, fronts + 1, 16, usize::MAX]), "no such front");
         if r.chance(5) {
             let mut short = s.clone();
-            shorten(r, &mut short.buffers);
+            states::shorten(r, &mut short.buffers);
             ask(&made.job, &short, 0, "a buffer's length");
         }
     }
@@ -330,7 +376,7 @@ fn on_states(port: &mut dyn Paver, call: Call, seed: u64, count: u64) -> Report 
             match r.below(100) {
                 0..=15 => (given, kind) = states::one_fault(r, &given),
                 16 => {
-                    shorten(r, &mut given.buffers);
+                    states::shorten(r, &mut given.buffers);
                     kind = "a buffer's length";
                 }
                 _ => {}
@@ -422,38 +468,105 @@ fn see_fan(report: &mut Report, job: &Job, before: &State, after: &State) {
     assert!(after.buffers.point(before.counts.points) == best.0, "the centre by the single functions is that of the Rust");
 }
 
-/// The numbers that the calls can answer. (A job's own are those of its sampling, and 21.)
-pub const ALL_NUMBERS: [u8; 19] = [0, 1, 2, 3, 4, 5, 6, 7, 8, 9, 10, 20, 21, 22, 23, 24, 25, 26, 27];
+/// The numbers that a job can answer.
+pub const JOB_NUMBERS: [u8; 12] = [0, 1, 2, 3, 4, 5, 6, 7, 8, 9, 10, 21];
 
-/// Jobs 0 to `count` of a seed, and calls on states made from each.
+/// Jobs 0 to `count` of a seed and a tenth as many near the limits, and calls on what each left and on a state made from it.
 pub fn run(port: &mut dyn Paver, seed: u64, count: u64) -> Report {
     let mut report = Report::default();
     for index in 0..count {
-        let mut made = generate::job(seed, index);
-        narrow(&mut made.job);
-        let r = &mut Random::new(seed ^ 0xC0FFEE, index);
-        let name = format!("seed {seed} job {index}");
-        let mut lent = State { buffers: states::noise(r), counts: Counts::default() };
-        if r.chance(2) {
-            shorten(r, &mut lent.buffers);
-        }
-        let (_, answer) = both(&mut report, port, Call::Job, &made.job, &lent, "whole", &name);
-        if answer.buffers.points.len() != calls::POINTS || !answer.buffers.fits() {
-            continue;
-        }
-        for _ in 0..2 {
-            let (mut s, kind) = states::state(r, &made.job, &answer);
-            if r.chance(2) {
-                shorten(r, &mut s.buffers);
-            }
-            let fronts = s.counts.fronts.clamp(1, 17);
-            let front = if r.chance(95) { r.below(fronts) } else { r.pick(&[fronts, 16, usize::MAX]) };
-            for call in [Call::Row(front), Call::Close, Call::Fan] {
-                both(&mut report, port, call, &made.job, &s, kind, &name);
-            }
+        job_and_after(&mut report, port, generate::sampling_job(seed, index), "generator", seed, index);
+        if index % 10 == 9 {
+            job_and_after(&mut report, port, extremes::near(seed, index / 10), "near the limits", seed, index / 10);
         }
     }
     report
+}
+
+/// A job into buffers that held anything; then on what it left, with anything behind, a fan, rows on two fronts and the
+/// closings; then the three on another state.
+pub fn job_and_after(report: &mut Report, port: &mut dyn Paver, mut made: Made, from: &'static str, seed: u64, index: u64) {
+    narrow(&mut made.job);
+    let r = &mut Random::new(seed ^ 0xC0FFEE, index);
+    let name = format!("seed {seed} job {index}, {from} ({}, {})", made.shape, made.change);
+    let mut lent = State { buffers: states::noise(r), counts: Counts::default() };
+    if r.chance(2) {
+        states::shorten(r, &mut lent.buffers);
+    }
+    let (number, answer) = both(report, port, Call::Job, &made.job, &lent, from, &name);
+    if !answer.buffers.fits() {
+        return;
+    }
+    if number == 0 {
+        see_job(report, &answer.counts);
+        let held = states::with_noise(r, &answer);
+        let fronts = answer.counts.fronts;
+        let first = r.below(fronts.max(1));
+        both(report, port, Call::Fan, &made.job, &held, "on the answer", &name);
+        both(report, port, Call::Row(first), &made.job, &held, "on the answer", &name);
+        if fronts > 1 {
+            both(report, port, Call::Row((first + 1) % fronts), &made.job, &held, "on the answer", &name);
+        }
+        both(report, port, Call::Close, &made.job, &held, "on the answer", &name);
+    }
+    let (mut s, kind) = states::state(r, &made.job, &answer);
+    if r.chance(2) {
+        states::shorten(r, &mut s.buffers);
+    }
+    let fronts = s.counts.fronts.clamp(1, 17);
+    let front = if r.chance(95) { r.below(fronts) } else { r.pick(&[fronts, 16, usize::MAX]) };
+    for call in [Call::Row(front), Call::Close, Call::Fan] {
+        both(report, port, call, &made.job, &s, kind, &name);
+    }
+}
+
+/// What an accepted job came to.
+pub fn see_job(report: &mut Report, c: &Counts) {
+    report.see("jobs accepted");
+    if c.row_rounds > 0 {
+        report.see("jobs that laid rows");
+        report.see_many("rows laid", c.row_rounds as u64);
+    }
+    if c.row_rounds > 0 && c.fronts > 1 {
+        report.see("jobs that laid rows and left several fronts");
+    }
+    if c.row_quads > c.laid {
+        report.see("jobs that closed a front");
+    }
+    for (what, n) in [("passes", c.passes), ("rows", c.row_rounds), ("points", c.points), ("quads", c.quads), ("fronts left", c.fronts)] {
+        report.at_most(what, n);
+    }
+}
+
+/// The jobs and states by name: what each came to, a line for each, and those that did not reach what they are for.
+pub fn named(port: &mut dyn Paver) -> (Report, String, Vec<&'static str>) {
+    let (mut report, mut text, mut short) = (Report::default(), String::new(), Vec::new());
+    let r = &mut Random::new(7, 7);
+    for case in extremes::named() {
+        let lent = State { buffers: states::noise(r), counts: Counts::default() };
+        let (_, sampled) = both(&mut report, port, Call::Sample, &case.job, &lent, "by name", case.name);
+        let (number, answer) = both(&mut report, port, Call::Job, &case.job, &lent, "by name", case.name);
+        let reached = Reached { sampled: &sampled, number, answer: &answer };
+        text += &format!("  {}: {}\n", case.name, if number == 0 { format!("{:?}", answer.counts.list()) } else { format!("refused {number}") });
+        if !(case.reached)(&reached) {
+            short.push(case.name);
+        }
+        if number == 0 {
+            let held = states::with_noise(r, &answer);
+            both(&mut report, port, Call::Fan, &case.job, &held, "by name", case.name);
+            for front in 0..answer.counts.fronts {
+                both(&mut report, port, Call::Row(front), &case.job, &held, "by name", case.name);
+            }
+        }
+    }
+    for case in extremes::closing_states() {
+        let (number, _) = both(&mut report, port, Call::Close, &case.job, &states::with_noise(r, &case.state), "by name", case.name);
+        text += &format!("  {}: {number}\n", case.name);
+        if number != case.number {
+            short.push(case.name);
+        }
+    }
+    (report, text, short)
 }
 
 /// A paver with one fault: a comparison that does not see it shows nothing.

@@ -1,13 +1,15 @@
-//! Demand 3 pitted against the oracle itself: each pair of nodes counted never
-//! or twice over sampled loops, quads and remaining fronts; the corner test on
-//! the answer's points; the prefix under two pass limits. In each answer, after
-//! further rows and closings, and after each fan granted.
+//! Demand 3 pitted against a paver, the oracle itself or the port: each pair of
+//! nodes counted never or twice over sampled loops, quads and remaining fronts;
+//! the corner test on the answer's points; the prefix under two pass limits. In
+//! each answer, after further rows and closings, and after each fan granted.
 
 use crate::calls::{self, Buffers, Counts, Job};
+use crate::compare::Paver;
 use crate::functions::quad_ok;
+use crate::extremes;
 use crate::generate::{self, Random};
 use crate::requests::job_lines;
-use std::collections::{BTreeMap, HashMap};
+use std::collections::BTreeMap;
 
 #[derive(Default)]
 pub struct Report {
@@ -38,20 +40,21 @@ struct State {
     counts: Counts,
 }
 
-fn add_ring(sides: &mut HashMap<(usize, usize), u32>, ring: &[usize]) {
+fn add_ring(sides: &mut Vec<(usize, usize)>, ring: &[usize]) {
     for i in 0..ring.len() {
         let (a, b) = (ring[i], ring[(i + 1) % ring.len()]);
-        *sides.entry((a.min(b), a.max(b))).or_insert(0) += 1;
+        sides.push((a.min(b), a.max(b)));
     }
 }
 
 /// A pair of nodes that counts neither 0 nor 2 times, or is no pair.
 pub fn bad_pair(loops: &[Vec<usize>], quads: &[[usize; 4]], fronts: &[Vec<usize>]) -> Option<((usize, usize), u32)> {
-    let mut sides = HashMap::new();
+    let mut sides = Vec::new();
     loops.iter().for_each(|ring| add_ring(&mut sides, ring));
     quads.iter().for_each(|quad| add_ring(&mut sides, quad));
     fronts.iter().for_each(|ring| add_ring(&mut sides, ring));
-    sides.into_iter().filter(|((a, b), n)| a == b || *n != 2).min()
+    sides.sort_unstable();
+    sides.chunk_by(|p, q| p == q).map(|same| (same[0], same.len() as u32)).find(|((a, b), n)| a == b || *n != 2)
 }
 
 /// What demand 3 says of one answer.
@@ -93,16 +96,16 @@ fn with_passes(job: &Job, passes: usize) -> Job {
     job
 }
 
-fn whole(job: &Job) -> (u8, State) {
+fn whole(p: &mut dyn Paver, job: &Job) -> (u8, State) {
     let mut buffers = Buffers::new();
-    let (n, counts) = calls::job(job, &mut buffers);
+    let (n, counts) = p.job(job, &mut buffers);
     (n, State { buffers, counts })
 }
 
 /// The fan of an answer, and demand 3 after it.
-fn fan(report: &mut Report, job: &Job, loops: &[Vec<usize>], sampled: &State, s: &State) -> Option<String> {
+fn fan(p: &mut dyn Paver, report: &mut Report, job: &Job, loops: &[Vec<usize>], sampled: &State, s: &State) -> Option<String> {
     let mut after = State { buffers: s.buffers.clone(), counts: s.counts };
-    let (n, counts) = calls::fan(job, &mut after.buffers, s.counts);
+    let (n, counts) = p.fan(job, &mut after.buffers, s.counts);
     after.counts = counts;
     if n != 0 {
         report.count(format!("fans refused: {n:02}"), 1);
@@ -117,7 +120,7 @@ fn fan(report: &mut Report, job: &Job, loops: &[Vec<usize>], sampled: &State, s:
 
 /// Rows by single calls, then the closings: demand 3 after each, and the fan.
 fn single_calls(
-    report: &mut Report, r: &mut Random, job: &Job, loops: &[Vec<usize>], sampled: &State, start: &State,
+    p: &mut dyn Paver, report: &mut Report, r: &mut Random, job: &Job, loops: &[Vec<usize>], sampled: &State, start: &State,
 ) -> Option<String> {
     let mut s = State { buffers: start.buffers.clone(), counts: start.counts };
     for _ in 0..3 {
@@ -125,32 +128,32 @@ fn single_calls(
             break;
         }
         let front = r.below(s.counts.fronts);
-        let (n, counts) = calls::row(job, front, &mut s.buffers, s.counts);
+        let (n, counts) = p.row(job, front, &mut s.buffers, s.counts);
         s.counts = counts;
         report.count(if n == 0 { "row calls granted".to_string() } else { format!("row calls refused: {n:02}") }, 1);
         if let Some(fault) = faults(loops, sampled, &s) {
             return Some(format!("after a row call {fault}"));
         }
     }
-    let (n, counts) = calls::close(job, &mut s.buffers, s.counts);
+    let (n, counts) = p.close(job, &mut s.buffers, s.counts);
     s.counts = counts;
     report.count(if n == 0 { "closing calls granted".to_string() } else { format!("closing calls refused: {n:02}") }, 1);
     if let Some(fault) = faults(loops, sampled, &s) {
         return Some(format!("after a closing call {fault}"));
     }
-    fan(report, job, loops, sampled, &s)
+    fan(p, report, job, loops, sampled, &s)
 }
 
 /// One job under the pass limits `less` and `more`.
-fn check(report: &mut Report, r: &mut Random, job: &Job, less: usize, more: usize) -> Option<String> {
-    let (n, large) = whole(&with_passes(job, more));
-    let (m, small) = whole(&with_passes(job, less));
+fn check(p: &mut dyn Paver, report: &mut Report, r: &mut Random, job: &Job, less: usize, more: usize) -> Option<String> {
+    let (n, large) = whole(p, &with_passes(job, more));
+    let (m, small) = whole(p, &with_passes(job, less));
     report.count(if n == 0 { "jobs accepted".to_string() } else { format!("jobs refused: {n:02}") }, 1);
     if n != m && n != 21 {
         return Some(format!("numbers {m} and {n} under {less} and {more} passes"));
     }
     let mut buffers = Buffers::new();
-    let (k, counts) = calls::sample(job, &mut buffers);
+    let (k, counts) = p.sample(job, &mut buffers);
     let sampled = State { buffers, counts };
     if k != 0 {
         return if k == n { None } else { Some(format!("sampling answers {k}, the job {n}")) };
@@ -164,10 +167,10 @@ fn check(report: &mut Report, r: &mut Random, job: &Job, less: usize, more: usiz
         if let Some(fault) = faults(&loops, &sampled, s) {
             return Some(fault);
         }
-        if let Some(fault) = fan(report, job, &loops, &sampled, s) {
+        if let Some(fault) = fan(p, report, job, &loops, &sampled, s) {
             return Some(fault);
         }
-        if let Some(fault) = single_calls(report, r, job, &loops, &sampled, s) {
+        if let Some(fault) = single_calls(p, report, r, job, &loops, &sampled, s) {
             return Some(fault);
         }
     }
@@ -202,20 +205,21 @@ fn check(report: &mut Report, r: &mut Random, job: &Job, less: usize, more: usiz
 }
 
 /// A plate of 2 rows, changed in one place each time: every change must be seen.
-fn changes_unseen() -> Vec<String> {
+fn tried(p: &mut dyn Paver) -> Report {
     let xy = (0..40).flat_map(|k| generate::on_circle(k as f64, 40.0)).map(|c| 6_400.0 * c).collect();
     let mut job = Job { xy, lengths: vec![40], h: 1_000.0, options: calls::default_options() };
     job.options.max_row_rounds = 2;
     let mut buffers = Buffers::new();
-    let (_, counts) = calls::sample(&job, &mut buffers);
+    let (_, counts) = p.sample(&job, &mut buffers);
     let sampled = State { buffers, counts };
     let loops = sampled.buffers.fronts(&counts);
-    let (n, right) = whole(&job);
+    let (n, right) = whole(p, &job);
     let last = right.counts.quads - 1;
-    let mut unseen = Vec::new();
+    let mut report = Report::default();
     let mut see = |what: &str, seen: bool| {
+        report.count("changes tried on an answer", 1);
         if !seen {
-            unseen.push(format!("a change is not seen: {what}"));
+            report.exceptions.push(format!("a change is not seen: {what}"));
         }
     };
     see("none", n == 0 && right.counts.row_rounds == 2 && faults(&loops, &sampled, &right).is_none());
@@ -240,7 +244,7 @@ fn changes_unseen() -> Vec<String> {
     altered("a sampled point moved by one bit", &|s| {
         s.buffers.points[5] = f64::from_bits(s.buffers.points[5].to_bits() ^ 1)
     });
-    let (_, small) = whole(&with_passes(&job, 1));
+    let (_, small) = whole(p, &with_passes(&job, 1));
     see("a prefix", prefix(&small, &right) && !prefix(&right, &small));
     let mut s = State { buffers: small.buffers.clone(), counts: small.counts };
     s.buffers.points[2 * s.counts.points - 1] += 1e-9;
@@ -248,12 +252,17 @@ fn changes_unseen() -> Vec<String> {
     let mut s = State { buffers: small.buffers.clone(), counts: small.counts };
     s.buffers.quads.swap(0, 1);
     see("a prefix's quad changed", !prefix(&s, &right));
-    unseen
+    report
+}
+
+/// Where a fault was found: the job, its limits and the fault.
+fn found(report: &mut Report, name: &str, job: &Job, less: usize, more: usize, fault: String) {
+    report.exceptions.push(format!("{name}, passes {less} and {more}: {fault}\n{}", job_lines(job)));
 }
 
 /// Jobs 0 to `count` of a seed.
-pub fn run(seed: u64, count: u64) -> Report {
-    let mut report = Report { exceptions: changes_unseen(), ..Report::default() };
+pub fn run(p: &mut dyn Paver, seed: u64, count: u64) -> Report {
+    let mut report = tried(p);
     for index in 0..count {
         let made = generate::job(seed, index);
         report.count("jobs", 1);
@@ -266,11 +275,32 @@ pub fn run(seed: u64, count: u64) -> Report {
             65.. => (own, own),
             _ => (r.below(own + 1), own),
         };
-        if let Some(fault) = check(&mut report, r, &made.job, less, more) {
-            report.exceptions.push(format!(
-                "seed {seed} job {index} ({}, {}), passes {less} and {more}: {fault}\n{}",
-                made.shape, made.change, job_lines(&made.job)
-            ));
+        if let Some(fault) = check(p, &mut report, r, &made.job, less, more) {
+            found(&mut report, &format!("seed {seed} job {index} ({}, {})", made.shape, made.change), &made.job, less, more, fault);
+        }
+    }
+    report
+}
+
+/// Jobs of a seed and jobs near the limits, in turn, each under two limits of which the smaller mostly stops the rows earlier
+/// (of those that lay no row, one in five), until `count` pairs have been accepted under both.
+pub fn pairs(p: &mut dyn Paver, seed: u64, count: u64) -> Report {
+    let mut report = tried(p);
+    let checked = |report: &Report| report.seen.get("prefixes checked").copied().unwrap_or(0);
+    for index in 0.. {
+        if checked(&report) >= count || !report.exceptions.is_empty() {
+            break;
+        }
+        let made = if index % 8 == 7 { extremes::near(seed, index) } else { generate::sampling_job(seed, index) };
+        let r = &mut Random::new(seed ^ 0x5EED, index);
+        let more = made.job.options.max_row_rounds.max(r.pick(&[1, 2, 32, 64]));
+        let (_, large) = whole(p, &with_passes(&made.job, more));
+        if large.counts.row_rounds == 0 && r.chance(80) {
+            continue;
+        }
+        let less = if large.counts.row_rounds == 0 { r.below(more.min(64) + 1) } else { r.below(large.counts.passes) };
+        if let Some(fault) = check(p, &mut report, r, &made.job, less, more) {
+            found(&mut report, &format!("seed {seed} job {index} ({}, {})", made.shape, made.change), &made.job, less, more, fault);
         }
     }
     report

@@ -413,17 +413,33 @@ pub struct Made {
     pub change: &'static str,
 }
 
+/// How large the jobs are.
+#[derive(Clone, Copy, PartialEq)]
+enum Sizes {
+    /// Up to the limits, also by a search for a size whose rows reach one.
+    Rows,
+    /// Up to the limits, without that search.
+    Sampling,
+    /// Mostly small, and without searches.
+    Small,
+}
+
 /// Job `index` of a seed.
 pub fn job(seed: u64, index: u64) -> Made {
-    made(seed, index, true)
+    made(seed, index, Sizes::Rows)
 }
 
 /// Job `index` of a seed for sampling alone: no search for a size whose rows reach a limit.
 pub fn sampling_job(seed: u64, index: u64) -> Made {
-    made(seed, index, false)
+    made(seed, index, Sizes::Sampling)
 }
 
-fn made(seed: u64, index: u64, rows: bool) -> Made {
+/// Job `index` of a seed, small for the most part: many in little time.
+pub fn small_job(seed: u64, index: u64) -> Made {
+    made(seed, index, Sizes::Small)
+}
+
+fn made(seed: u64, index: u64, sizes: Sizes) -> Made {
     let r = &mut Random::new(seed, index);
     let shape_name = r.pick(&SHAPES);
     if shape_name == "ties" {
@@ -456,6 +472,8 @@ fn made(seed: u64, index: u64, rows: bool) -> Made {
     let round: f64 = loops.iter().map(perimeter).sum();
     let nodes = if change == "doubled points" && r.chance(60) {
         r.spread(0.5, 6.0)
+    } else if sizes == Sizes::Small && r.chance(90) {
+        r.spread(2.0, 100.0)
     } else if r.chance(85) { r.spread(2.0, 300.0) } else { r.spread(2.0, 2_400.0) };
     let mut h = (round / nodes).clamp(limits::LEAST_SIZE, limits::MOST_SIZE);
     if whole && h >= 2.0 {
@@ -465,11 +483,11 @@ fn made(seed: u64, index: u64, rows: bool) -> Made {
     let xy = loops.into_iter().flatten().flatten().collect();
     let mut job = Job { xy, lengths, h, options: options(r) };
     match change {
-        "under 2,048 nodes" => {
+        "under 2,048 nodes" if sizes != Sizes::Small => {
             job.options.corner_margin = job.options.corner_margin.min(4.0);
             just_under(r, &mut job, 10, round / 4_000.0, round / 100.0, 30);
         }
-        "under 4,096 points" if rows => {
+        "under 4,096 points" if sizes == Sizes::Rows => {
             job.options.max_row_rounds = 64;
             just_under(r, &mut job, 21, round / 1_000.0, round / 50.0, 12);
         }

@@ -3,9 +3,11 @@
 //! `cut` is made at build time from the Rust source; the rest is what stands
 //! around it: document 01's measures (`quality`), the added limits (`limits`),
 //! calls over lent buffers (`calls`), the texts (`text`, `requests`), single
-//! functions (`functions`), jobs and states from a seed (`generate`, `states`,
-//! `fronts`), the counting of demand 3 (`demands`), and any paver side by side
-//! with the oracle (`compare`), among them pavers with a fault (`faults`).
+//! functions (`functions`), jobs, states and texts from a seed (`generate`,
+//! `extremes`, `mixed`, `states`, `fronts`, `texts`), what a job met (`met`), the
+//! counting of demand 3 (`demands`), and any paver side by side with the oracle
+//! (`compare`, `rounds`), among them pavers with a fault (`faults`, `wrong`); a
+//! difference made smaller (`reduce`).
 
 #[allow(dead_code)]
 #[rustfmt::skip]
@@ -14,14 +16,21 @@ mod cut;
 pub mod calls;
 pub mod compare;
 pub mod demands;
+pub mod extremes;
 pub mod faults;
 pub mod fronts;
 pub mod functions;
 pub mod generate;
 pub mod limits;
+pub mod met;
+pub mod mixed;
 pub mod quality;
+pub mod reduce;
 pub mod requests;
+pub mod rounds;
 pub mod states;
 pub mod text;
+pub mod texts;
+pub mod wrong;
 
 pub use cut::alt_paving::Options;

@@ -1,15 +1,19 @@
 //! driver                      answers requests from standard input (see requests.rs)
 //! driver pave                 the program of document 01, from standard input
 //! driver jobs SEED COUNT      prints the generator's jobs as requests
+//! driver texts SEED COUNT     prints the generator's texts, each after a line with the number of its bytes
 //! driver demands SEED COUNT   pits demand 3 against the oracle
 //! driver selftest SEED COUNT  compares the oracle with itself, and with pavers that have a fault
 
-use oracle::{compare, demands, faults, generate, requests, text};
+use oracle::{compare, demands, faults, generate, requests, text, texts};
 use std::io::{Read, Write};
 use std::process::exit;
 
 /// The self-test makes so many states for the closings and for the fan, or COUNT if that is more: every fault comes up in them.
 const LEAST_STATES: u64 = 2_000;
+
+/// And so many texts.
+const LEAST_TEXTS: u64 = 20_000;
 
 fn input() -> Vec<u8> {
     let mut bytes = Vec::new();
@@ -48,9 +52,17 @@ fn main() {
                 print(&format!("job\n{}end\n", requests::job_lines(&made.job)));
             }
         }
+        (Some("texts"), 3) => {
+            let (seed, count) = seed_and_count(&words[1..]);
+            let mut out = std::io::stdout().lock();
+            for i in 0..count {
+                let (text, _) = texts::text(seed, i);
+                out.write_all(&[format!("{}\n", text.len()).as_bytes(), &text].concat()).expect("standard output");
+            }
+        }
         (Some("demands"), 3) => {
             let (seed, count) = seed_and_count(&words[1..]);
-            let report = demands::run(seed, count);
+            let report = demands::run(&mut compare::Oracle, seed, count);
             print(&report.text());
             exit(if report.exceptions.is_empty() { 0 } else { 1 })
         }
@@ -83,6 +95,17 @@ fn main() {
                 for (i, name) in slips.iter().enumerate() {
                     faulty(&mut faults::Slip(i), name, true);
                 }
+            }
+            let count = count.max(LEAST_TEXTS);
+            let mut same = |text: &[u8]| text::pave(text).into_bytes();
+            let mut right = texts::Texts::new(&mut same, 0);
+            bad |= right.run(seed, count).is_err();
+            print(&right.text());
+            for (name, fault) in texts::FAULTS {
+                let mut program = |text: &[u8]| fault(text);
+                let seen = texts::Texts::new(&mut program, 0).run(seed, count);
+                print(&format!("texts, {name}: {}\n", seen.as_ref().err().map_or("not seen", |d| d.trim_end())));
+                bad |= seen.is_ok();
             }
             exit(bad as i32)
         }

@@ -16,12 +16,25 @@
 //!     p X Y
 //!     q A B C D
 //!     f A B ..
+//!     lengths N ..           loop lengths other than the points after each `outer` and `hole`
+//!     more X ..              further coordinates
+//!     lent P Q N L           lengths of the lent buffers other than document 01's
 //!
 //! After `refused`, a row, the closings and the fan say with `left` which counts the state then has.
 
 use crate::calls::{self, default_options, Buffers, Counts, Job};
+use crate::compare::Call;
 use crate::functions as f;
+use crate::states::State;
 use crate::text;
+
+/// One call with all that it is given.
+#[derive(Clone)]
+pub struct Case {
+    pub call: Call,
+    pub job: Job,
+    pub state: State,
+}
 
 fn number(field: &str) -> Result<f64, String> {
     let fault = || format!("not a number: {field}");
@@ -85,6 +98,7 @@ struct Body {
     job: Job,
     buffers: Buffers,
     counts: Counts,
+    lent: Option<[usize; 4]>,
 }
 
 impl Body {
@@ -93,6 +107,7 @@ impl Body {
             job: Job { xy: Vec::new(), lengths: Vec::new(), h: f64::NAN, options: default_options() },
             buffers: Buffers { points: vec![], quads: vec![], front_nodes: vec![], front_lengths: vec![] },
             counts: Counts::default(),
+            lent: None,
         }
     }
 
@@ -125,6 +140,13 @@ impl Body {
                 self.buffers.points.push(number(rest[0])?);
                 self.buffers.points.push(number(rest[1])?);
             }
+            ("lengths", _) => self.job.lengths = rest.iter().map(|field| natural(field)).collect::<Result<_, _>>()?,
+            ("more", _) => {
+                for field in rest {
+                    self.job.xy.push(number(field)?);
+                }
+            }
+            ("lent", 4) => self.lent = Some([natural(rest[0])?, natural(rest[1])?, natural(rest[2])?, natural(rest[3])?]),
             ("q", 4) => self.nodes(rest, true)?,
             ("f", _) => {
                 self.buffers.front_lengths.push(rest.len() as u16);
@@ -150,6 +172,26 @@ impl Body {
         b.quads.resize(b.quads.len().max(calls::QUADS), 0);
         b.front_nodes.resize(b.front_nodes.len().max(calls::FRONT_NODES), 0);
         b.front_lengths.resize(b.front_lengths.len().max(calls::FRONT_LENGTHS), 0);
+        if let Some([p, q, n, l]) = self.lent {
+            b.points.resize(p, 0.0);
+            b.quads.resize(q, 0);
+            b.front_nodes.resize(n, 0);
+            b.front_lengths.resize(l, 0);
+        }
+    }
+
+    /// The call that a head names, with the body's job and state.
+    fn case(mut self, head: &[&str]) -> Result<Case, String> {
+        self.fill();
+        let call = match (head[0], head.len()) {
+            ("job", 1) => Call::Job,
+            ("sample", 1) => Call::Sample,
+            ("row", 2) => Call::Row(natural(head[1])?),
+            ("close", 1) => Call::Close,
+            ("fan", 1) => Call::Fan,
+            _ => return Err(format!("not a call: {}", head.join(" "))),
+        };
+        Ok(Case { call, job: self.job, state: State { buffers: self.buffers, counts: self.counts } })
     }
 
     fn answer(&mut self, head: &[&str]) -> Result<String, String> {
@@ -228,28 +270,99 @@ fn call(fields: &[&str]) -> Result<String, String> {
     Ok(out + "\n")
 }
 
-/// Answers every request of a text, in order.
-pub fn answers(input: &str) -> Result<String, String> {
-    let mut out = String::new();
+/// The shortest decimal that is read as this number; its bits when there is none.
+fn shortest(x: f64) -> String {
+    let text = format!("{x:?}");
+    let text = text.strip_suffix(".0").unwrap_or(&text).to_string();
+    match text.parse::<f64>() {
+        Ok(y) if y.to_bits() == x.to_bits() => text,
+        _ => by_bits(x),
+    }
+}
+
+/// A case as a request, in decimals. What stands behind the counts is not in it.
+pub fn request(case: &Case) -> String {
+    let (job, o) = (&case.job, &case.job.options);
+    let head = match case.call {
+        Call::Sample => "sample".to_string(),
+        Call::Job => "job".to_string(),
+        Call::Row(front) => format!("row\t{front}"),
+        Call::Close => "close".to_string(),
+        Call::Fan => "fan".to_string(),
+    };
+    let mut out = format!("{head}\nsize\t{}\n", shortest(job.h));
+    let list = [shortest(o.corner_margin), shortest(o.min_edge_fraction), shortest(o.front_gap), o.max_row_rounds.to_string(), o.seam.to_string()];
+    let d = default_options();
+    if list != [shortest(d.corner_margin), shortest(d.min_edge_fraction), shortest(d.front_gap), d.max_row_rounds.to_string(), d.seam.to_string()] {
+        out += &format!("options\t{}\n", list.join("\t"));
+    }
+    let sound = job.xy.len() % 2 == 0 && job.lengths.iter().map(|&n| n as u128).sum::<u128>() == (job.xy.len() / 2) as u128;
+    let mut pairs = job.xy.chunks_exact(2);
+    for (i, &n) in job.lengths.iter().enumerate().take(if sound { usize::MAX } else { 0 }) {
+        out += if i == 0 { "outer\n" } else { "hole\n" };
+        for p in pairs.by_ref().take(n) {
+            out += &format!("at\t{}\t{}\n", shortest(p[0]), shortest(p[1]));
+        }
+    }
+    if !sound {
+        let words = |list: Vec<String>| list.iter().map(|w| format!("\t{w}")).collect::<String>();
+        out += &format!("more{}\n", words(job.xy.iter().map(|&x| shortest(x)).collect()));
+        out += &format!("lengths{}\n", words(job.lengths.iter().map(usize::to_string).collect()));
+    }
+    let (b, c) = (&case.state.buffers, &case.state.counts);
+    if !b.fits() {
+        out += &format!("lent\t{}\t{}\t{}\t{}\n", b.points.len(), b.quads.len(), b.front_nodes.len(), b.front_lengths.len());
+    }
+    if matches!(case.call, Call::Sample | Call::Job) {
+        return out + "end\n";
+    }
+    out += &text::counts("counts", c);
+    for p in b.points.chunks_exact(2).take(c.points) {
+        out += &format!("p\t{}\t{}\n", shortest(p[0]), shortest(p[1]));
+    }
+    for q in b.quads.chunks_exact(4).take(c.quads) {
+        out += &format!("q\t{}\t{}\t{}\t{}\n", q[0], q[1], q[2], q[3]);
+    }
+    let mut nodes = b.front_nodes.iter();
+    for &n in b.front_lengths.iter().take(c.fronts) {
+        out += &nodes.by_ref().take(n as usize).fold("f".to_string(), |line, node| format!("{line}\t{node}"));
+        out.push('\n');
+    }
+    out + "end\n"
+}
+
+/// The requests of a text, each with its head.
+fn parted(input: &str) -> Result<Vec<(usize, Vec<&str>, Body)>, String> {
+    let mut out = Vec::new();
     let mut lines = input.lines().enumerate().filter(|(_, line)| !line.trim().is_empty());
     while let Some((at, line)) = lines.next() {
         let head: Vec<&str> = line.split_whitespace().collect();
-        let result = if head[0] == "call" {
-            call(&head[1..])
-        } else {
-            let mut body = Body::new();
-            let mut ended = false;
-            for (at, line) in lines.by_ref() {
-                let fields: Vec<&str> = line.split_whitespace().collect();
-                if fields == ["end"] {
-                    ended = true;
-                    break;
-                }
+        let mut body = Body::new();
+        let mut ended = head[0] == "call";
+        while !ended {
+            let Some((at, line)) = lines.next() else { return Err(format!("line {}: a request without end", at + 1)) };
+            let fields: Vec<&str> = line.split_whitespace().collect();
+            ended = fields == ["end"];
+            if !ended {
                 body.line(&fields).map_err(|e| format!("line {}: {e}", at + 1))?;
             }
-            if ended { body.answer(&head) } else { Err("a request without end".to_string()) }
-        };
+        }
+        out.push((at, head, body));
+    }
+    Ok(out)
+}
+
+/// Answers every request of a text, in order.
+pub fn answers(input: &str) -> Result<String, String> {
+    let mut out = String::new();
+    for (at, head, mut body) in parted(input)? {
+        let result = if head[0] == "call" { call(&head[1..]) } else { body.answer(&head) };
         out += &result.map_err(|e| format!("line {}: {e}", at + 1))?;
     }
     Ok(out)
+}
+
+/// The requests of a text that ask for one of the five calls on a job or a state.
+pub fn cases(input: &str) -> Result<Vec<Case>, String> {
+    parted(input)?.into_iter().map(|(at, head, body)| body.case(&head).map_err(|e| format!("line {}: {e}", at + 1))).collect()
 }

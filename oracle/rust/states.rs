@@ -14,9 +14,12 @@ pub struct State {
 pub fn noise(r: &mut Random) -> Buffers {
     let mut b = Buffers::new();
     b.points.iter_mut().for_each(|x| *x = f64::from_bits(r.next()));
-    b.quads.iter_mut().for_each(|x| *x = r.next() as u16);
-    b.front_nodes.iter_mut().for_each(|x| *x = r.next() as u16);
-    b.front_lengths.iter_mut().for_each(|x| *x = r.next() as u16);
+    for list in [&mut b.quads, &mut b.front_nodes, &mut b.front_lengths] {
+        for four in list.chunks_mut(4) {
+            let x = r.next();
+            four.iter_mut().enumerate().for_each(|(k, place)| *place = (x >> (16 * k)) as u16);
+        }
+    }
     b
 }
 
@@ -36,6 +39,17 @@ pub fn with_noise(r: &mut Random, s: &State) -> State {
     b.front_nodes[..nodes].copy_from_slice(&s.buffers.front_nodes[..nodes]);
     b.front_lengths[..c.fronts].copy_from_slice(&s.buffers.front_lengths[..c.fronts]);
     State { buffers: b, counts: c }
+}
+
+/// One of the buffers of another length.
+pub fn shorten(r: &mut Random, b: &mut Buffers) {
+    match r.below(5) {
+        0 => drop(b.points.pop()),
+        1 => drop(b.quads.pop()),
+        2 => b.front_nodes.push(7),
+        3 => b.front_lengths.clear(),
+        _ => b.points.push(1.0),
+    }
 }
 
 fn polygon(r: &mut Random, n: usize, centre: [f64; 2], radius: f64) -> Vec<[f64; 2]> {

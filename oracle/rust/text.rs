@@ -51,7 +51,12 @@ fn whole(field: &str, most: i64) -> Option<i64> {
 
 /// A job of the program's text, default options; `None` is number 11.
 pub fn job(text: &[u8]) -> Option<Job> {
-    if text.len() > MOST_BYTES {
+    job_of(text, MOST_BYTES)
+}
+
+/// The same for texts of up to so many bytes.
+pub fn job_of(text: &[u8], most: usize) -> Option<Job> {
+    if text.len() > most {
         return None;
     }
     let body = std::str::from_utf8(text).ok()?.strip_suffix('\n')?;
@@ -76,8 +81,13 @@ pub fn job(text: &[u8]) -> Option<Job> {
 
 /// The program `pave`: text in, text out.
 pub fn pave(text: &[u8]) -> String {
+    pave_job(job(text))
+}
+
+/// What the program prints for the job that it read.
+pub fn pave_job(job: Option<Job>) -> String {
     let mut buffers = Buffers::new();
-    match job(text) {
+    match job {
         None => answer(11, &Counts::default(), &buffers),
         Some(job) => {
             let (number, counts) = crate::calls::job(&job, &mut buffers);
