@@ -1,7 +1,7 @@
 -- The search of the pairs of sides: a turn of each loop, and a crossing that was found is not lost.
 use mathlib.Core.Path.{_≡_, refl, sym, _∙_}
-use mathlib.Core.Bool.{Bool, true, false, not, cond}
-use mathlib.Core.Logic.{_⊎_, inl, inr}
+use mathlib.Core.Bool.{Bool, true, false, not, _&&_}
+use mathlib.Core.Logic.{inl, inr}
 use Prim.Native.Nat.{ℕ, zero, suc, _+_, _-_, _≤_, _<_}
 use native.Mathlib.Nat.{add-zero, add-suc, zero-add}
 use native.Mathlib.Numerals.{add-one}
@@ -16,17 +16,6 @@ use Rattle.row_checks.proofs.Sides.{next-inner}
 use Rattle.pairs.proofs.Sides.{next-cases}
 use Rattle.rules.specs.Simple.{Search, neighbours, sidesCross, testPair, searchSide, search}
 
--- ---- the sides that a side is tested with: from the next but one up to `end`
-end-cases : (n i end : ℕ) → 1 ≤ n → end ≡ cond (eqb i 0) (n - 1) n → ((i ≡ 0) × (end + 1 ≡ n)) ⊎ ((1 ≤ i) × (end ≡ n))
-end-cases n i end l e = go (eqb i 0) refl e
-  where
-    go : (b : Bool) → eqb i 0 ≡ b → end ≡ cond b (n - 1) n → ((i ≡ 0) × (end + 1 ≡ n)) ⊎ ((1 ≤ i) × (end ≡ n))
-    go true z f = inl (eqb-true i 0 z, omega arith)
-    go false z f = let d = eqb-false i 0 z in inr (omega (arith, d), f)
-
-pub end-within : (n i end : ℕ) → 1 ≤ n → end ≡ cond (eqb i 0) (n - 1) n → (end ≤ n) × (n ≤ end + 1)
-end-within n i end l e = elim (end-cases n i end l e) [ inl h ↦ (omega (arith, h .1), omega (arith, h .1)) | inr h ↦ (omega (arith, h .1), omega (arith, h .1)) ]
-
 -- ---- which pairs are neighbours
 next-is-neighbour : (n i : ℕ) → i + 1 < n → neighbours n i (i + 1) ≡ true
 next-is-neighbour n i l = rw (eq-eqb (next n i) (i + 1) (next-inner n i (omega arith) refl l)) (or-true (eqb (next n (i + 1)) i))
@@ -35,15 +24,21 @@ last-is-neighbour : (n end : ℕ) → end + 1 ≡ n → neighbours n 0 end ≡ t
 last-is-neighbour n end e =
     elim (next-cases n end (omega arith)) [ inl h ↦ rw (eq-eqb (next n end) 0 (h .1)) | inr h ↦ absurd (omega (arith, h .0)) ]
 
-pub not-neighbours : (n i j end : ℕ) → 1 ≤ n → end ≡ cond (eqb i 0) (n - 1) n → i + 2 ≤ j → j < end → neighbours n i j ≡ false
-not-neighbours n i j end l e g m =
-    let w = end-within n i end l e in
-    let before : next n j ≡ i → ⊥ = λ z. elim (next-cases n j (omega arith)) [
-      | inl h ↦ elim (end-cases n i end l e) [ inl f ↦ omega (arith, h .0, f .1) | inr f ↦ omega (arith, h .1, z, f .0) ]
-      | inr h ↦ omega (arith, h .1, z)
-    ] in
+pub not-neighbours : (n i j : ℕ) → i + 2 ≤ j → j + 1 < n → neighbours n i j ≡ false
+not-neighbours n i j g m =
+    let before : next n j ≡ i → ⊥ = λ z. let f = next-inner n j {k = next n j} (omega arith) refl m in omega (arith, f, z) in
     let after : next n i ≡ j → ⊥ = λ z. let f = next-inner n i {k = next n i} (omega arith) refl (omega arith) in omega (arith, f, z) in
     rw (ne-eqb (next n j) i before, ne-eqb (next n i) j after)
+
+-- ---- the closing side
+pub closes : (n : ℕ) → 1 ≤ n → 0 ≡ next n (n - 1)
+closes n l = elim (next-cases n (n - 1) (omega arith)) [ inl h ↦ sym (h .1) | inr h ↦ absurd (omega (arith, h .0)) ]
+
+not-closing : (n i : ℕ) → (i ≡ 0 → ⊥) → i + 2 < n → neighbours n i (n - 1) ≡ false
+not-closing n i some l =
+    let before : next n (n - 1) ≡ i → ⊥ = λ z. some (sym (closes n (omega arith) ∙ z)) in
+    let after : next n i ≡ n - 1 → ⊥ = λ z. let f = next-inner n i {k = next n i} (omega arith) refl (omega arith) in omega (arith, f, z) in
+    rw (ne-eqb (next n (n - 1)) i before, ne-eqb (next n i) (n - 1) after)
 
 module _ (r : Ring) where
   pub sides-cross : (i j k l : ℕ) (a b c d : Point) (f : Bool) → f ≡ segmentsCross a b c d → a ≡ r .at i → b ≡ r .at k → k ≡ next (r .size) i → c ≡ r .at j → d ≡ r .at l
@@ -97,16 +92,22 @@ module _ (r : Ring) where
       let e : i + 1 + 1 ≡ i + 2 = omega arith in
       rw e at (side-more i (i + 1) (search r i) false (omega arith) (skipped i (i + 1) (searchSide r i (i + 1 - (i + 1)) (search r i)) (next-is-neighbour (r .size) i l) ∙ side-none i (i + 1 - (i + 1)) (omega arith) h))
 
-  -- and at the first side the last
-  pub side-ended : (i end : ℕ) → i + 2 ≤ end → 1 ≤ r .size → end ≡ cond (eqb i 0) (r .size - 1) (r .size)
-      → searchSide r i (end - (i + 1)) (search r i) .crossed ≡ false → searchSide r i (r .size - (i + 1)) (search r i) .crossed ≡ false
-  side-ended i end g l e h =
-      elim (end-cases (r .size) i end l e) [
-        | inl f ↦
-            let m : neighbours (r .size) i end ≡ true = rw (f .0) (last-is-neighbour (r .size) end (f .1)) in
-            rw (f .1) at (side-more i end (search r i) false (omega arith) (skipped i end (searchSide r i (end - (i + 1)) (search r i)) m ∙ h))
-        | inr f ↦ rw (f .1) at h
-      ]
+  -- the closing side ends it: the first side's neighbour is passed over
+  pub side-closed : (i : ℕ) (f : Bool) → i + 2 < r .size → f ≡ (not (eqb i 0) && sidesCross r i (r .size - 1))
+      → searchSide r i (r .size - 1 - (i + 1)) (search r i) .crossed ≡ false → searchSide r i (r .size - (i + 1)) (search r i) .crossed ≡ f
+  side-closed i f l e h = go (eqb i 0) refl
+    where
+      done : testPair r i (r .size - 1) (searchSide r i (r .size - 1 - (i + 1)) (search r i)) .crossed ≡ f → searchSide r i (r .size - (i + 1)) (search r i) .crossed ≡ f
+      done t = let whole : r .size - 1 + 1 ≡ r .size = omega arith in rw whole at (side-more i (r .size - 1) (search r i) f (omega arith) t)
+
+      go : (b : Bool) → eqb i 0 ≡ b → searchSide r i (r .size - (i + 1)) (search r i) .crossed ≡ f
+      go true z =
+          let m : neighbours (r .size) i (r .size - 1) ≡ true = rw (eqb-true i 0 z) (last-is-neighbour (r .size) (r .size - 1) (omega arith)) in
+          let no : f ≡ false = rw z at e in
+          done (skipped i (r .size - 1) (searchSide r i (r .size - 1 - (i + 1)) (search r i)) m ∙ h ∙ sym no)
+      go false z =
+          let is : f ≡ sidesCross r i (r .size - 1) = rw z at e in
+          done (tested i (r .size - 1) (searchSide r i (r .size - 1 - (i + 1)) (search r i)) f h (not-closing (r .size) i (eqb-false i 0 z) l) is)
 
   -- the last two sides have no side to be tested with
   pub last-two : (i : ℕ) → i + 2 ≡ r .size → search r i .crossed ≡ false → search r (r .size) .crossed ≡ false
@@ -122,10 +123,13 @@ module _ (r : Ring) where
       rw add-suc
       (rw zero-add at (side-stays (m + d) 0 (r .size - 1 - (m + d)) (search r (m + d)) (search-stays m d h)))
 
-  -- a crossing at the sides i and j ends the search
+  -- a crossing of side i ends the search
+  pub found-closing : (i : ℕ) → i < r .size → searchSide r i (r .size - (i + 1)) (search r i) .crossed ≡ true → true ≡ search r (r .size) .crossed
+  found-closing i l h =
+      let f : (i + 1) + (r .size - (i + 1)) ≡ r .size = omega arith in
+      sym (rw f at (search-stays (i + 1) (r .size - (i + 1)) (side-done i true l h)))
+
   pub found : (i j : ℕ) → i + 1 ≤ j → j < r .size → searchSide r i (j + 1 - (i + 1)) (search r i) .crossed ≡ true → true ≡ search r (r .size) .crossed
   found i j l g h =
       let e : (j + 1 - (i + 1)) + (r .size - (j + 1)) ≡ r .size - (i + 1) = omega arith in
-      let f : (i + 1) + (r .size - (i + 1)) ≡ r .size = omega arith in
-      let s : searchSide r i (r .size - (i + 1)) (search r i) .crossed ≡ true = rw e at (side-stays i (j + 1 - (i + 1)) (r .size - (j + 1)) (search r i) h) in
-      sym (rw f at (search-stays (i + 1) (r .size - (i + 1)) (side-done i true (omega arith) s)))
+      found-closing i (omega arith) (rw e at (side-stays i (j + 1 - (i + 1)) (r .size - (j + 1)) (search r i) h))
