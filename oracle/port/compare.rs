@@ -8,7 +8,7 @@
 //! compare job SEED COUNT         COUNT whole jobs and a tenth as many near the limits, and on what each left a fan, rows and the
 //!                                closings, and the three on a state made from it; the jobs by name; and on the port's own
 //!                                answers demand 3: a tenth as many pairs of pass limits, with pair counts and corners
-//! compare text SEED COUNT        COUNT texts, written and damaged (built with --cfg text, with the library that has pave_text)
+//! compare text SEED COUNT        COUNT texts, written and damaged
 //! compare all SEED HOURS         all kinds in turn, a new seed each round, for so many hours (0.1 are six minutes) or until something
 //!                                differs; then the input is made smaller and printed. The last line says the seed to go on with
 //! compare request                a request of the oracle's driver from standard input, port and Rust
@@ -27,7 +27,6 @@ mod paver;
 mod port;
 mod root;
 mod stack;
-#[cfg(text)]
 mod text;
 mod threads;
 mod work;
@@ -103,7 +102,6 @@ fn demand(seed: u64, count: u64) -> bool {
 }
 
 /// So many texts in each round.
-#[cfg(text)]
 const TEXTS: u64 = 2_000;
 
 /// After so many jobs every number and everything that is looked for has to have come up.
@@ -111,12 +109,9 @@ const ENOUGH: u64 = 100_000;
 
 /// All kinds in turn. Further kinds stand in the list `further`.
 fn all(port: &mut dyn Paver, seed: u64, hours: f64) -> bool {
-    #[cfg(text)]
     let mut program = text::program();
-    #[cfg(text)]
     let mut texts = oracle::texts::Texts::new(&mut program, TEXTS);
     let mut further: Vec<&mut dyn Kind> = vec![
-        #[cfg(text)]
         &mut texts,
     ];
     let mut rounds = Rounds::default();
@@ -204,7 +199,6 @@ fn main() {
         "close" => close(seed, count),
         "fan" => fan(seed, count),
         "job" => job(seed, count),
-        #[cfg(text)]
         "text" => text::run(seed, count),
         "guard" => guard::run(seed, count),
         "threads" => threads::run(seed, count),

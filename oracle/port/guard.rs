@@ -177,13 +177,10 @@ pub fn run(seed: u64, count: u64) -> bool {
         println!("a page {name} each list: {count} jobs, {all} calls ({}) and {measures} of the geometry, none stopped", words.join(", "));
     }
     println!("{different} differences");
-    #[cfg(text)]
     let texts = crate::text::guarded(seed, count, |index, fence| {
         for (told, x) in ASKED.iter().zip([seed, index, 6, (fence == Fence::Behind) as u64]) {
             told.store(x, Relaxed);
         }
     });
-    #[cfg(not(text))]
-    let texts = true;
     made == ended && different == 0 && texts
 }

@@ -161,9 +161,8 @@ pub fn run(seed: u64, count: u64) -> bool {
         let bytes = used(&mut || keep(measure()));
         println!("pave_{name:<20} {bytes:>6}");
     }
-    #[cfg(text)]
     {
-        let mut output = vec![0; 262_144];
+        let mut output = vec![0; 270_336];
         let texts: Vec<Vec<u8>> = (0..count).map(|index| oracle::texts::text(seed, index).0).collect();
         let bytes = used(&mut || texts.iter().for_each(|text| _ = crate::text::call(text, &mut output)));
         println!("pave_text   {bytes:>11} {count:>8}");

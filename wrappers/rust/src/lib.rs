@@ -39,7 +39,6 @@ mod job;
 pub mod lent;
 mod paving;
 mod refusal;
-#[cfg(feature = "text")]
 pub mod text;
 
 pub use job::{Job, Options};
