@@ -132,7 +132,7 @@ fn plates(points: &[usize], most_passes: usize) {
     let mut before: Option<&Case> = None;
     for case in &cases {
         let [port, lists, filled] = case.best;
-        line(&format!("{} nodes, {} holes, {} points, {} rows", case.nodes, case.holes, case.points, case.rows), (port, lists));
+        line(&format!("{} nodes, {} points, holes {}, rows {}", case.nodes, case.points, case.holes, case.rows), (port, lists));
         line("    the same, the Rust filling the buffers", (port, filled));
         if let Some(last) = before.filter(|last| (last.points, last.holes) == (case.points, case.holes)) {
             growth((port, lists), (last.best[0], last.best[1]));
