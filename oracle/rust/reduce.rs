@@ -58,6 +58,7 @@ enum Step {
     Passes(usize),
     Shift(usize),
     Scale(f64, usize),
+    Shrink(f64, usize),
     AllDigits(usize),
     SizeDigits(usize),
     Digits(usize, usize),
@@ -177,6 +178,7 @@ fn changed(case: &Case, step: Step) -> Option<Case> {
             c.job.h = size;
             each_coordinate(&mut c, |_, place| to_places(place * by, places(digits)));
         }
+        Step::Shrink(by, digits) => each_coordinate(&mut c, |_, place| to_places(place * by, places(digits))),
         Step::AllDigits(digits) => c.job.xy.iter_mut().for_each(|x| *x = to_places(*x, places(digits))),
         Step::SizeDigits(digits) => c.job.h = rounded(c.job.h, digits),
         Step::Digits(i, digits) => *c.job.xy.get_mut(i)? = rounded(case.job.xy[i], digits),
@@ -277,6 +279,7 @@ fn steps(case: &Case) -> Vec<Step> {
     out.extend([0, 1, 2, 3, 4, 8, 16].map(Step::Passes));
     out.extend((0..ALL_DIGITS).map(Step::Shift));
     out.extend([1.0, 1_000.0].into_iter().flat_map(|size| (0..ALL_DIGITS).map(move |digits| Step::Scale(size, digits))));
+    out.extend([0.1, 0.5].into_iter().flat_map(|by| (0..ALL_DIGITS).map(move |digits| Step::Shrink(by, digits))));
     out.extend((0..17).map(Step::SizeDigits));
     out.extend((0..ALL_DIGITS).map(Step::AllDigits));
     if on_a_state(case.call) {
@@ -303,8 +306,9 @@ fn fine(case: &Case) -> Vec<Step> {
 fn weight(case: &Case) -> (usize, usize, usize) {
     let digits = |x: f64| match x.to_bits() {
         0 => 0,
-        _ if x.is_finite() => format!("{x:e}").bytes().take_while(|b| *b != b'e').filter(u8::is_ascii_digit).count(),
-        _ => 3,
+        // a digit counts more than a place
+        _ if x.is_finite() => 4 * format!("{x:e}").bytes().take_while(|b| *b != b'e').filter(u8::is_ascii_digit).count() + format!("{x}").len(),
+        _ => 12,
     };
     let job = &case.job;
     let o = &job.options;
