@@ -1,4 +1,4 @@
-//! bench root | geometry | sample | rows | closings | fan | job
+//! bench root | geometry | sample | rows | closings | fan | job | text
 
 mod clock;
 mod fronts;
@@ -10,6 +10,7 @@ mod port;
 mod root;
 mod rows;
 mod sample;
+mod text;
 mod work;
 
 fn main() {
@@ -23,8 +24,9 @@ fn main() {
         Some("closings") => fronts::closings(),
         Some("fan") => fronts::fan(),
         Some("job") => job::run(),
+        Some("text") => text::run(),
         _ => {
-            eprintln!("bench root|geometry|sample|rows|closings|fan|job");
+            eprintln!("bench root|geometry|sample|rows|closings|fan|job|text");
             std::process::exit(2)
         }
     }
