@@ -171,3 +171,31 @@ pub fn run() {
     plates(&[4], 1);
     generated();
 }
+
+/// A dozen fixed plates for bench/counts: nodes, points, holes, the size's bits and the pass limit, a line each.
+pub fn cases() {
+    for (points, nodes) in [(4, 64), (4, 512), (4, 2_048), (64, 512)] {
+        for holes in [0, 1, 8] {
+            if let Some(work) = sized(points, holes, nodes) {
+                println!("{nodes} {points} {holes} {} {}", work.job.h.to_bits(), work.job.options.max_row_rounds);
+            }
+        }
+    }
+}
+
+/// One of them, so many times: by the port, by the Rust into its own lists, or by the Rust that fills the buffers.
+pub fn once(words: &[String]) {
+    let number = |k: usize| words[k].parse::<u64>().expect("a number");
+    let mut job = plate(number(1) as usize, number(2) as usize, f64::from_bits(number(3)));
+    job.options.max_row_rounds = number(4) as usize;
+    let work = Work::new(job);
+    let port_job = work.port();
+    let mut ways = Ways::new();
+    for _ in 0..number(5) {
+        match words[0].as_str() {
+            "port" => assert!(black_box(port::job(&port_job, &mut ways.ours, &mut ways.counts)) == 0),
+            "lists" => drop(black_box(calls::job_only(&work.domain, work.job.h, &work.job.options))),
+            _ => assert!(black_box(calls::job(&work.job, &mut ways.theirs)).0 == 0),
+        }
+    }
+}

@@ -15,7 +15,11 @@ mod work;
 
 fn main() {
     let words: Vec<String> = std::env::args().skip(1).collect();
-    clock::load();
+    match words.first().map(String::as_str) {
+        Some("cases") => return job::cases(),
+        Some("once") => return job::once(&words[1..]),
+        _ => clock::load(),
+    }
     match words.first().map(String::as_str) {
         Some("root") => root::run(),
         Some("geometry") => geometry::run(),
