@@ -1,4 +1,0 @@
-pub mod Places
-pub mod Shapes
-pub mod Captions
-pub mod Picture

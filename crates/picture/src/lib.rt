@@ -1,1 +1,0 @@
-// A job's text, paved and drawn as SVG.

@@ -1,0 +1,4 @@
+pub mod Pieces
+pub mod Literals
+pub mod Numbers
+pub mod Turns
