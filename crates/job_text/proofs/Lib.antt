@@ -1,3 +1,10 @@
 pub mod ReadableNumbers
 pub mod ReadableLines
 pub mod Readable
+pub mod Ending
+pub mod Wholes
+pub mod Points
+pub mod Following
+pub mod Storing
+pub mod Answering
+pub mod Callers

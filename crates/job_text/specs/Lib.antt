@@ -1,3 +1,4 @@
 pub mod Drawing
 pub mod Reading
 pub mod Readable
+pub mod Answers

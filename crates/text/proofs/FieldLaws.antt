@@ -44,6 +44,15 @@ field-short (b ∷ bs) = by (endsField b) (field-short bs)
 
 -- ---- the place where a field ends, looked for byte by byte
 
+pub tab-ends : (b : ℕ) → b ≡ 9 → endsField b ≡ true
+tab-ends b e = rw (eq-eqb b 9 e)
+
+pub lf-ends : (b : ℕ) → (b ≡ 9 → ⊥) → b ≡ 10 → endsField b ≡ true
+lf-ends b n e = rw (ne-eqb b 9 n, eq-eqb b 10 e)
+
+pub none-ends : (b : ℕ) → (b ≡ 9 → ⊥) → (b ≡ 10 → ⊥) → endsField b ≡ false
+none-ends b n m = rw (ne-eqb b 9 n, ne-eqb b 10 m)
+
 module _ (t : List ℕ) (at : ℕ) where
   pub end-last : length t ≤ at → fieldEnd t at ≡ at
   unfolding field fieldEnd

@@ -52,7 +52,7 @@ spelled-is (d ∷ ds) v e = spelled-is ds (v * 10 + (d - 48)) (first-spelled v d
 -- ---- the loop that spells: from place i on, behind the value so far
 
 module _ (t : List ℕ) (i end value : ℕ) (h : i < end) (l : end ≤ length t) where
-  at-place : slice i end t ≡ getD t i 0 ∷ slice (i + 1) end t
+  pub at-place : slice i end t ≡ getD t i 0 ∷ slice (i + 1) end t
   at-place = rw add-one (slice-cons i end t 0 h l)
 
   pub place-spelled : Digit (getD t i 0) → spelling value (slice i end t) ≡ spelling (value * 10 + (getD t i 0 - 48)) (slice (i + 1) end t)

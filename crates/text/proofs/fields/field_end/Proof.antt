@@ -2,10 +2,9 @@
 use mathlib.Core.Path.{_≡_, refl, sym, _∙_}
 use Prim.Native.Nat.{_≤_, _-_}
 use native.Mathlib.Omega.{arith}
-use borrow.Author.Tests.{eq-eqb, ne-eqb}
 use lib.ListN.{length}
 use Rattle.text.specs.Fields.{fieldEnd}
-use Rattle.text.proofs.FieldLaws.{end-last, end-stops, end-goes}
+use Rattle.text.proofs.FieldLaws.{end-last, end-stops, end-goes, tab-ends, lf-ends, none-ends}
 use Rattle.text.proofs.fields.field_end.Statement.{statement}
 use Rattle.text.proofs.fields.field_end.Tie as tie
 
@@ -25,13 +24,13 @@ returns : tie.Need-returns Inv-loop μ-loop
 returns c =
     let at-loop : tie.At-loop Inv-loop μ-loop = search in
     let entry : tie.Start Inv-loop μ-loop = search in
-    sym (at-loop .loop .inv .1 ∙ end-stops (entry .args .text .now) (at-loop .loop .end) (omega arith) (rw (eq-eqb _ _ (c .if1 .taken))))
+    sym (at-loop .loop .inv .1 ∙ end-stops (entry .args .text .now) (at-loop .loop .end) (omega arith) (tab-ends _ (c .if1 .taken)))
 
 returns-2 : tie.Need-returns-2 Inv-loop μ-loop
 returns-2 c =
     let at-loop : tie.At-loop Inv-loop μ-loop = search in
     let entry : tie.Start Inv-loop μ-loop = search in
-    sym (at-loop .loop .inv .1 ∙ end-stops (entry .args .text .now) (at-loop .loop .end) (omega arith) (rw (ne-eqb _ _ (c .before .if1 .left), eq-eqb _ _ (c .if2 .taken))))
+    sym (at-loop .loop .inv .1 ∙ end-stops (entry .args .text .now) (at-loop .loop .end) (omega arith) (lf-ends _ (c .before .if1 .left) (c .if2 .taken)))
 
 add-end : tie.Need-add-end Inv-loop μ-loop
 add-end c = omega arith
@@ -43,7 +42,7 @@ loop-again : tie.Need-loop-again Inv-loop μ-loop
 loop-again c =
     let at-loop : tie.At-loop Inv-loop μ-loop = search in
     let entry : tie.Start Inv-loop μ-loop = search in
-    (omega arith, at-loop .loop .inv .1 ∙ end-goes (entry .args .text .now) (at-loop .loop .end) (omega arith) (rw (ne-eqb _ _ (c .before .if1 .left), ne-eqb _ _ (c .if2 .left))))
+    (omega arith, at-loop .loop .inv .1 ∙ end-goes (entry .args .text .now) (at-loop .loop .end) (omega arith) (none-ends _ (c .before .if1 .left) (c .if2 .left)))
 
 returns-3 : tie.Need-returns-3 Inv-loop μ-loop
 returns-3 c =
