@@ -2,7 +2,7 @@
 use mathlib.Core.Path.{_≡_, refl, sym, _∙_, ap}
 use mathlib.Core.Bool.{Bool, true, false, cond}
 use mathlib.Core.List.{List, [], _∷_, _++_}
-use Prim.Native.Nat.{ℕ, zero, suc, _+_, _-_, _*_, _/_, _%_, _^_, _<_, _≤_}
+use Prim.Native.Nat.{ℕ, zero, suc, _+_, _-_, _/_, _%_, _^_, _<_, _≤_}
 use native.Mathlib.Nat.{pow-suc}
 use native.Mathlib.Omega.{arith}
 use borrow.Author.Tests.{lt-ltb, le-ltb, ltb-true, ltb-false}
@@ -57,6 +57,21 @@ length-at-most (suc k) n = go (ltb n 10) (length-at-most k (n / 10))
     go : (b : Bool) → length (digits k (n / 10)) ≤ k → length (cond b ((48 + n) ∷ []) (digits k (n / 10) ++ ((48 + n % 10) ∷ []))) ≤ suc k
     go true h = omega arith
     go false h = rw (length-append (digits k (n / 10)) ((48 + n % 10) ∷ [])) (omega arith)
+
+pub length-below : (k j n : ℕ) → n < 10 ^ suc k → length (digits j n) ≤ suc k
+unfolding digits
+length-below k zero n h = omega arith
+length-below k (suc j) n h = go k (ltb n 10) refl h (λ i g. length-below i j (n / 10) g)
+  where
+    go : (k : ℕ) (b : Bool) → ltb n 10 ≡ b → n < 10 ^ suc k → ((i : ℕ) → n / 10 < 10 ^ suc i → length (digits j (n / 10)) ≤ suc i)
+        → length (cond b ((48 + n) ∷ []) (digits j (n / 10) ++ ((48 + n % 10) ∷ []))) ≤ suc k
+    go k true e h f = omega arith
+    go zero false e h f = let s = ltb-false n 10 e in omega arith
+    go (suc k) false e h f =
+        let s = ltb-false n 10 e in
+        let p = pow-suc 10 (suc k) in
+        let g = f k (omega arith) in
+        rw (length-append (digits j (n / 10)) ((48 + n % 10) ∷ [])) (omega arith)
 
 -- the lowest digit of `rest` is stored, and what stands above it is left
 pub decimal-down : (d e t : List ℕ) (a i rest : ℕ) → i ≡ a + length (decimalText rest) → 10 ≤ rest → rest < 2 ^ 64 → sets e a (decimalText rest) ≡ sets d a t

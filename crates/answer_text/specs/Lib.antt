@@ -1,0 +1,2 @@
+pub mod AnswerText
+pub mod Fits
