@@ -2,3 +2,4 @@ pub mod Pieces
 pub mod Literals
 pub mod Numbers
 pub mod Turns
+pub mod Lengths
