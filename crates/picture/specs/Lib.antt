@@ -1,4 +1,2 @@
-pub mod Places
-pub mod Shapes
-pub mod Captions
+pub mod Plates
 pub mod Picture

@@ -1,0 +1,5 @@
+pub mod Pieces
+pub mod Literals
+pub mod Numbers
+pub mod Turns
+pub mod Lengths
