@@ -10,7 +10,7 @@ use lib.ListN.{length, getD, take, drop, replicate, length-append, length-map}
 use lib.Seq.{sets, getD-take, length-take-le}
 use Rattle.geometry.specs.Domain.{sumOf}
 use Rattle.state.specs.State.{cut, joined, padded}
-use Rattle.state.proofs.Cutting.{pairs-more, pairs-all, pairs-within, part-is, cut-length}
+use Rattle.state.proofs.Cutting.{total-more, total-all, total-within, part-is, cut-length}
 use Rattle.state.proofs.Growing.{joined-append}
 use Rattle.state.proofs.Stores.{sets-append, front-padded}
 use Rattle.closing.specs.declared.keeping.Place.{Place}
@@ -59,7 +59,7 @@ module _ (N L : List ℕ) (marks : List Bool) where
           ap (λ t. getD t i 0) (moved .lengths) ∙ behind-sets (map length (kept i)) L 0 i 0 (omega arith) ∙ sym (getD-take (length marks) L i 0 h)
 
       pub within : s + getD l i 0 ≤ length N
-      within = let w = pairs-within sizes i here in let e = len-is in let g = moved .start in omega arith
+      within = let w = total-within sizes i here in let e = len-is in let g = moved .start in omega arith
 
       -- and so are the nodes
       nodes-are : take (getD l i 0) (drop s n) ≡ getD fronts i []
@@ -105,7 +105,7 @@ module _ (N L : List ℕ) (marks : List Bool) where
           → l′ ≡ sets l (place .front) (cond t (getD l i 0 ∷ []) [])
           → Moved n′ l′ next (s + getD l i 0) (i + 1)
       moved-more t n′ l′ next e hp hn hl =
-          let starts : s + getD l i 0 ≡ sumOf (take (i + 1) sizes) = rw (len-is, moved .start) (sym (pairs-more sizes i here)) in
+          let starts : s + getD l i 0 ≡ sumOf (take (i + 1) sizes) = rw (len-is, moved .start) (sym (total-more sizes i here)) in
           let nodes = hn ∙ moved-nodes t e in
           let lengths = hl ∙ moved-lengths t e in
           rw hp (go t e nodes lengths starts)
@@ -141,7 +141,7 @@ module _ (N L : List ℕ) (marks : List Bool) where
     -- the places of the kept fronts are within the buffers
     module _ (n l : List ℕ) (place : Place) (s i : ℕ) (moved : Moved n l place s i) (h : i ≡ length marks) where
       all : s ≡ sumOf sizes
-      all = moved .start ∙ pairs-all sizes i (h ∙ sym sizes-long)
+      all = moved .start ∙ total-all sizes i (h ∙ sym sizes-long)
 
       pub node-within : place .node ≤ length N
       node-within = let low = moved .low in let e = all in omega arith

@@ -26,15 +26,15 @@ module _ (loops : List ℕ) (left k n : ℕ) (some : k < length loops) (hn : n �
   one-less : drop k loops ≡ n ∷ drop (k + 1) loops
   one-less = rw (add-one, hn) (drop-cons loops k 0 some)
 
-  pairs-ahead : sumOf (drop k loops) ≡ n + sumOf (drop (k + 1) loops)
+  total-ahead : sumOf (drop k loops) ≡ n + sumOf (drop (k + 1) loops)
   unfolding sumOf
-  pairs-ahead = ap sumOf one-less
+  total-ahead = ap sumOf one-less
 
   pub fit-here : (t : Bool) → t ≡ leb (sumOf (drop k loops)) left → left < n → false ≡ t
-  fit-here t e h = sym (e ∙ lt-leb (sumOf (drop k loops)) left (omega (arith, pairs-ahead)))
+  fit-here t e h = sym (e ∙ lt-leb (sumOf (drop k loops)) left (omega (arith, total-ahead)))
 
   pub fit-next : (t : Bool) → t ≡ leb (sumOf (drop k loops)) left → n ≤ left → t ≡ leb (sumOf (drop (k + 1) loops)) (left - n)
-  fit-next t e h = sym (same-test (sumOf (drop k loops)) left (sumOf (drop (k + 1) loops)) (left - n) t (sym e) (λ g. omega (arith, pairs-ahead)) (λ g. omega (arith, pairs-ahead)))
+  fit-next t e h = sym (same-test (sumOf (drop k loops)) left (sumOf (drop (k + 1) loops)) (left - n) t (sym e) (λ g. omega (arith, total-ahead)) (λ g. omega (arith, total-ahead)))
 
 pub fit-end : (loops : List ℕ) (left k : ℕ) (t : Bool) → length loops ≤ k → t ≡ leb (sumOf (drop k loops)) left → true ≡ t
 unfolding sumOf

@@ -8,7 +8,7 @@ use lib.Seq.{length-take-le, getD-take}
 use Rattle.geometry.specs.Domain.{sumOf}
 use Rattle.state.specs.State.{Held, reading}
 use Rattle.state.specs.Sound.{Sound, sizesOf}
-use Rattle.state.proofs.Cutting.{pairs-within, part-is, part-of-all}
+use Rattle.state.proofs.Cutting.{total-within, part-is, part-of-all}
 use Rattle.state.proofs.Reading.{Counted, sound-counted, sizes-long, fits, points-long, fronts-read}
 
 only-one : {A : Type 0} (xs : List A) (d : A) → length xs ≡ 1 → xs ≡ getD xs 0 d ∷ []
@@ -41,7 +41,7 @@ module _ (b : Held) (sound : Sound b) (one : b .counts .fronts ≡ 1) where
 
   module _ (n : ℕ) (hn : n ≡ getD (b .frontLengths) 0 0) where
     pub front-fits : n ≤ length (b .frontNodes)
-    front-fits = let w = pairs-within (sizesOf b) 0 there in let f = fits b counted in let e = size-is in let s = start in omega arith
+    front-fits = let w = total-within (sizesOf b) 0 there in let f = fits b counted in let e = size-is in let s = start in omega arith
 
     pub front-long : length (take n (b .frontNodes)) ≡ n
     front-long = length-take-le n (b .frontNodes) front-fits

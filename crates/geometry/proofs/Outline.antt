@@ -31,15 +31,15 @@ module _ {coords : List Float} {loops : List ℕ} {from k n : ℕ} (room : Room 
   one-less : drop k loops ≡ n ∷ drop (k + 1) loops
   one-less = rw (add-one, hn) (drop-cons loops k 0 some)
 
-  pairs-ahead : sumOf (drop k loops) ≡ n + sumOf (drop (k + 1) loops)
+  total-ahead : sumOf (drop k loops) ≡ n + sumOf (drop (k + 1) loops)
   unfolding sumOf
-  pairs-ahead = ap sumOf one-less
+  total-ahead = ap sumOf one-less
 
   pub room-here : (from + n) * 2 ≤ length coords
-  room-here = omega (arith, pairs-ahead)
+  room-here = omega (arith, total-ahead)
 
   pub room-next : Room coords loops (from + n) (k + 1)
-  room-next = record { there = omega (arith, pairs-ahead) }
+  room-next = record { there = omega (arith, total-ahead) }
 
   doubled : from * 2 + n * 2 ≡ (from + n) * 2
   doubled = omega arith
@@ -110,17 +110,17 @@ unfolding rings
 outline-first coords n [] some hn = absurd (omega arith)
 outline-first coords n (m ∷ ms) some hn = rw hn
 
-pairs-first : (n : ℕ) (loops : List ℕ) → 0 < length loops → n ≡ getD loops 0 0 → sumOf loops ≡ n + sumOf (drop 1 loops)
+total-first : (n : ℕ) (loops : List ℕ) → 0 < length loops → n ≡ getD loops 0 0 → sumOf loops ≡ n + sumOf (drop 1 loops)
 unfolding sumOf
-pairs-first n [] some hn = absurd (omega arith)
-pairs-first n (m ∷ ms) some hn = rw hn
+total-first n [] some hn = absurd (omega arith)
+total-first n (m ∷ ms) some hn = rw hn
 
 module _ (coords : List Float) (loops : List ℕ) {n : ℕ} (hn : n ≡ getD loops 0 0) (left : length loops ≡ 0 → ⊥) (room : sumOf loops * 2 ≤ length coords) where
   some : 0 < length loops
   some = omega (arith, left)
 
   pub room-first : n * 2 ≤ length coords
-  room-first = omega (arith, pairs-first n loops some hn)
+  room-first = omega (arith, total-first n loops some hn)
 
   pub outside : (p : Point) (t : Bool) → t ≡ inPolygon p (ringOf coords n) → t ≡ false → false ≡ contains (rings coords loops) p
   unfolding contains
@@ -128,7 +128,7 @@ module _ (coords : List Float) (loops : List ℕ) {n : ℕ} (hn : n ≡ getD loo
 
   module _ {part : List Float} {holes : List ℕ} (hp : part ≡ drop (n * 2) coords) (hh : holes ≡ drop 1 loops) where
     pub room-holes : sumOf holes * 2 ≤ length part
-    room-holes = rw (hp, hh) (simp length-drop (omega (arith, pairs-first n loops some hn)))
+    room-holes = rw (hp, hh) (simp length-drop (omega (arith, total-first n loops some hn)))
 
     behind-first : rings coords loops ≡ ringOf coords n ∷ rings part holes
     behind-first = outline-first coords n loops some hn ∙ rw (hp, hh)

@@ -136,9 +136,9 @@ module _ (t : List ℕ) (c : List Float) (l : List ℕ) where
   unreadable e = record { answer = rw e; holds = λ d f m. absurd (none-some (sym e ∙ f)) }
 
 module _ (t : List ℕ) (x : Float) (c : List Float) (l : List ℕ) (s : Stored) (f : JobFound t x c l s) where
-  pairs-is : s .pairs ≡ length (joined (loops (f .drawing)))
+  total-is : s .pairs ≡ length (joined (loops (f .drawing)))
   unfolding storing
-  pairs-is = ap (λ (q : Stored). q .pairs) (some-is (f .stores)) ∙ zero-add (length (joined (loops (f .drawing))))
+  total-is = ap (λ (q : Stored). q .pairs) (some-is (f .stores)) ∙ zero-add (length (joined (loops (f .drawing))))
 
   loops-is : s .loops ≡ length (loops (f .drawing))
   unfolding storing
@@ -154,18 +154,18 @@ module _ (t : List ℕ) (x : Float) (c : List Float) (l : List ℕ) (s : Stored)
 
   pub many-pairs : 2048 < s .pairs → JobReadIs t (s .coords) (s .lengths) jobRead.TooMany
   unfolding tooMany
-  many-pairs h = many (rw (lt-ltb 2048 (length (joined (loops (f .drawing)))) (rw pairs-is at h)) (or-true (ltb 16 (length (loops (f .drawing))))))
+  many-pairs h = many (rw (lt-ltb 2048 (length (joined (loops (f .drawing)))) (rw total-is at h)) (or-true (ltb 16 (length (loops (f .drawing))))))
 
   module _ (long : length c ≡ 4096) (wide : length l ≡ 16) (few : s .loops ≤ 16) (small : s .pairs ≤ 2048) where
     not-many : tooMany (f .drawing) ≡ false
     unfolding tooMany
-    not-many = rw (le-ltb 16 (length (loops (f .drawing))) (rw loops-is at few), le-ltb 2048 (length (joined (loops (f .drawing)))) (rw pairs-is at small))
+    not-many = rw (le-ltb 16 (length (loops (f .drawing))) (rw loops-is at few), le-ltb 2048 (length (joined (loops (f .drawing)))) (rw total-is at small))
 
     held : Holds (f .drawing) (s .coords) (s .lengths)
     unfolding jobOf storing
     held =
         let d = f .drawing in
-        let p = rw pairs-is at small in
+        let p = rw total-is at small in
         let n = rw loops-is at few in
         record {
           coords = front-part c (coordinatesOf (joined (loops d))) (s .coords) (length (joined (loops d)) * 2) (omega arith) (sym (length-coordinates (joined (loops d)))) (ap (λ (q : Stored). q .coords) (some-is (f .stores)));
@@ -175,6 +175,6 @@ module _ (t : List ℕ) (x : Float) (c : List Float) (l : List ℕ) (s : Stored)
     pub job-read : JobReadIs t (s .coords) (s .lengths) (jobRead.Is x (s .pairs) (s .loops))
     unfolding answerOf
     job-read = record {
-      answer = rw (f .is, not-many, f .size, pairs-is, loops-is);
+      answer = rw (f .is, not-many, f .size, total-is, loops-is);
       holds = λ d g m. rw (some-is (sym (f .is) ∙ g)) at held;
     }

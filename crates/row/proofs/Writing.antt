@@ -14,7 +14,7 @@ use Rattle.state.specs.Limits.{frontNodeLimit, pointsLength, quadsLength}
 use Rattle.state.specs.State.{Held, cut, nodes, numbered, written, reading}
 use Rattle.state.specs.Call.{held}
 use Rattle.state.specs.Sound.{Sound, Clean, sizesOf}
-use Rattle.state.proofs.Cutting.{joined-cut, lengths-cut, cut-length, pairs-within}
+use Rattle.state.proofs.Cutting.{joined-cut, lengths-cut, cut-length, total-within}
 use Rattle.state.proofs.Growing.{take-before, drop-before, extended, replaced, numbers, numbers-append, length-numbers, length-numbered}
 use Rattle.state.proofs.Reading.{Counted, sound-counted, fits, points-long, nodes-read, quads-read, fronts-read, quad-nodes-read}
 use Rattle.state.proofs.Zeros.{same-held, points-held, quads-held, nodes-held, lengths-held}
@@ -89,7 +89,7 @@ module _ (b : Held) (sound : Sound b) (clean : Clean b) (li n : ℕ) (row : List
   nodes-field : after ≡ written (committed (reading b) li row) .frontNodes
   unfolding written committed after
   nodes-field =
-      let w = pairs-within (sizesOf b) li (room .front) in
+      let w = total-within (sizesOf b) li (room .front) in
       let l = length-numbered (b .counts .points) n in
       replaced 0 (b .frontNodes) (take total (b .frontNodes)) frontNodeLimit total (ap (λ (l : Held). l .frontNodes) clean ∙ nodes-held b sound) (length-take-le total (b .frontNodes) (fits b counted)) (numbered (b .counts .points) n) start (omega arith)
       ∙ sym (rw (new-front, joined-cut (sizesOf b) after fits-after, length-take-le total after fits-after))

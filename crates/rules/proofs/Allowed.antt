@@ -18,7 +18,7 @@ use Rattle.state.specs.Given.{some, someFrom, someBelow, wrongCounts, wrongValu
 use Rattle.state.proofs.Basics.{or-false, or-no}
 use Rattle.state.proofs.Repeating.{from-both}
 use Rattle.state.proofs.Written.{reading-written}
-use Rattle.state.proofs.Fitting.{pairs-lengths, from-none}
+use Rattle.state.proofs.Fitting.{total-lengths, from-none}
 use Rattle.input.specs.Limit.{cornerLimit}
 use Rattle.rules.specs.Closing.{closure, keptFronts}
 use Rattle.pairs.proofs.Occurs.{occursInAll, occurs-none, occurs-joined, none-repeated}
@@ -103,7 +103,7 @@ module _ (loops : List (List ℕ)) (s : State) (stands : Stands loops s) where
   counts-right =
       rw (
         take-at (map length (s .fronts)) (replicate (16 - length (map length (s .fronts))) 0) (length (s .fronts)) (length-map (s .fronts) length),
-        pairs-lengths (s .fronts),
+        total-lengths (s .fronts),
         le-ltb pointLimit (nodes s) (allowed .points),
         le-ltb quadLimit (length (s .quads)) (allowed .quads),
         le-ltb frontLimit (length (s .fronts)) (allowed .fronts),

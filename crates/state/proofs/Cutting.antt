@@ -12,24 +12,24 @@ use Rattle.state.specs.State.{joined, cut}
 
 -- ---- how many nodes the first k fronts have
 
-pub pairs-more : (l : List ℕ) (k : ℕ) → k < length l → sumOf (take (k + 1) l) ≡ sumOf (take k l) + getD l k 0
+pub total-more : (l : List ℕ) (k : ℕ) → k < length l → sumOf (take (k + 1) l) ≡ sumOf (take k l) + getD l k 0
 unfolding sumOf
-pairs-more l k h = rw add-one (go l k h)
+total-more l k h = rw add-one (go l k h)
   where
     go : (l : List ℕ) (k : ℕ) → k < length l → sumOf (take (suc k) l) ≡ sumOf (take k l) + getD l k 0
     go [] k h = absurd (not-suc-le-zero h)
     go (x ∷ l) zero h = omega arith
     go (x ∷ l) (suc k) h = ap (λ (t : ℕ). x + t) (go l k (le-of-suc-le-suc h)) ∙ sym (add-assoc x (sumOf (take k l)) (getD l k 0))
 
-pub pairs-all : (l : List ℕ) (k : ℕ) → k ≡ length l → sumOf (take k l) ≡ sumOf l
-pairs-all l k e = rw (e, take-length l)
+pub total-all : (l : List ℕ) (k : ℕ) → k ≡ length l → sumOf (take k l) ≡ sumOf l
+total-all l k e = rw (e, take-length l)
 
 -- the front after the first k ends within the nodes of all
-pub pairs-within : (l : List ℕ) (k : ℕ) → k < length l → sumOf (take k l) + getD l k 0 ≤ sumOf l
+pub total-within : (l : List ℕ) (k : ℕ) → k < length l → sumOf (take k l) + getD l k 0 ≤ sumOf l
 unfolding sumOf
-pairs-within [] k h = absurd (not-suc-le-zero h)
-pairs-within (x ∷ l) zero h = omega arith
-pairs-within (x ∷ l) (suc k) h = let g = pairs-within l k (le-of-suc-le-suc h) in omega arith
+total-within [] k h = absurd (not-suc-le-zero h)
+total-within (x ∷ l) zero h = omega arith
+total-within (x ∷ l) (suc k) h = let g = total-within l k (le-of-suc-le-suc h) in omega arith
 
 -- ---- the fronts that the lengths cut out
 
@@ -58,14 +58,14 @@ lengths-cut (n ∷ l) xs h = ap₂ _∷_ (length-take-le n xs (omega arith)) (le
 module _ (l xs : List ℕ) (k : ℕ) (h : k < length l) (fits : sumOf l ≤ length xs) where
   pub part-length : length (take (getD l k 0) (drop (sumOf (take k l)) xs)) ≡ getD l k 0
   part-length =
-      let g = pairs-within l k h in
+      let g = total-within l k h in
       length-take-le (getD l k 0) (drop (sumOf (take k l)) xs) (simp length-drop (omega arith))
 
   -- what holds of the nodes of all fronts holds of one's
   pub part-below : (m : ℕ) → ((i : ℕ) → i < sumOf l → getD xs i 0 * 2 + 1 < m)
       → (i : ℕ) → i < getD l k 0 → getD (take (getD l k 0) (drop (sumOf (take k l)) xs)) i 0 * 2 + 1 < m
   part-below m all i g =
-      let w = pairs-within l k h in
+      let w = total-within l k h in
       rw (getD-take (getD l k 0) (drop (sumOf (take k l)) xs) i 0 g, getD-drop) (all (sumOf (take k l) + i) (omega arith))
 
   -- the same, as a loop reads the front

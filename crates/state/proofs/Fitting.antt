@@ -35,10 +35,10 @@ pub record Fit (s : State) : Type 0 where
 padded-long : {A : Type 0} (n : ℕ) (z : A) (xs : List A) → length xs ≤ n → length (padded n z xs) ≡ n
 padded-long n z xs h = length-append xs (replicate (n - length xs) z) ∙ rw length-replicate (omega arith)
 
-pub pairs-lengths : (fs : List (List ℕ)) → sumOf (map length fs) ≡ length (joined fs)
+pub total-lengths : (fs : List (List ℕ)) → sumOf (map length fs) ≡ length (joined fs)
 unfolding sumOf joined
-pairs-lengths [] = refl
-pairs-lengths (f ∷ fs) = ap (λ k. length f + k) (pairs-lengths fs) ∙ sym (length-append f (joined fs))
+total-lengths [] = refl
+total-lengths (f ∷ fs) = ap (λ k. length f + k) (total-lengths fs) ∙ sym (length-append f (joined fs))
 
 module _ (s : State) (fit : Fit s) where
   sizes-written : sizesOf (written s) ≡ map length (s .fronts)
@@ -46,7 +46,7 @@ module _ (s : State) (fit : Fit s) where
   sizes-written = take-at (map length (s .fronts)) (replicate (16 - length (map length (s .fronts))) 0) (length (s .fronts)) (length-map (s .fronts) length)
 
   total-written : sumOf (sizesOf (written s)) ≡ length (joined (s .fronts))
-  total-written = rw sizes-written (pairs-lengths (s .fronts))
+  total-written = rw sizes-written (total-lengths (s .fronts))
 
   below-written : (i : ℕ) → i < length (joined (s .fronts)) → getD (written s .frontNodes) i 0 < nodes s
   unfolding written

@@ -14,13 +14,13 @@ use Rattle.state.specs.Coordinates.{wrongCoordinate}
 
 -- ---- the sum of the loop lengths
 
-pub pairs-step : (l : List ℕ) (i sum n : ℕ) → sum + sumOf (drop i l) ≡ sumOf l → n ≡ getD l i 0 → i < length l → sum + n + sumOf (drop (i + 1) l) ≡ sumOf l
+pub total-step : (l : List ℕ) (i sum n : ℕ) → sum + sumOf (drop i l) ≡ sumOf l → n ≡ getD l i 0 → i < length l → sum + n + sumOf (drop (i + 1) l) ≡ sumOf l
 unfolding sumOf
-pairs-step l i sum n e h k = add-assoc sum n (sumOf (drop (i + 1) l)) ∙ rw (h, add-one) (rw (drop-cons l i 0 k) at e)
+total-step l i sum n e h k = add-assoc sum n (sumOf (drop (i + 1) l)) ∙ rw (h, add-one) (rw (drop-cons l i 0 k) at e)
 
-pub pairs-end : (l : List ℕ) (i sum : ℕ) → sum + sumOf (drop i l) ≡ sumOf l → length l ≤ i → sum + 0 ≡ sumOf l
+pub total-end : (l : List ℕ) (i sum : ℕ) → sum + sumOf (drop i l) ≡ sumOf l → length l ≤ i → sum + 0 ≡ sumOf l
 unfolding sumOf
-pairs-end l i sum e h = rw (drop-of-length-le l h) at e
+total-end l i sum e h = rw (drop-of-length-le l h) at e
 
 -- ---- the coordinates
 

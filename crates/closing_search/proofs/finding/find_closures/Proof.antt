@@ -5,7 +5,7 @@ use native.Mathlib.Omega.{arith}
 use borrow.Author.Needs.{needs}
 use lib.ListN.{length, length-set}
 use Rattle.state.specs.State.{cut}
-use Rattle.state.proofs.Cutting.{pairs-within, part-of-all, part-is, length-cut}
+use Rattle.state.proofs.Cutting.{total-within, part-of-all, part-is, length-cut}
 use Rattle.closing_search.proofs.Gathering.{Found, found-none, found-more, few-quads}
 use Rattle.closing_search.proofs.finding.find_closures.Statement.{statement}
 use Rattle.closing_search.proofs.finding.find_closures.Tie as tie
@@ -33,7 +33,7 @@ room c =
 within : (c : tie.After-front-at Inv-loop μ-loop) → c .front-at .result .start + c .front-at .result .len ≤ length (start (c .before) .args .front-nodes .now)
 within c =
     let s = start (c .before) in
-    let w = pairs-within (s .args .lengths .now) _ (c .before .loop-test .taken) in
+    let w = total-within (s .args .lengths .now) _ (c .before .loop-test .taken) in
     let fs = c .front-at .ensures .0 in
     let fl = c .front-at .ensures .1 in
     let f = s .pre .1 .0 in

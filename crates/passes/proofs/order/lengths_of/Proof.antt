@@ -6,7 +6,7 @@ use native.Mathlib.Omega.{arith}
 use lib.ListN.{length, length-set}
 use Rattle.geometry.specs.Rings.{nodeRing}
 use Rattle.geometry.specs.Measures.{frontLength}
-use Rattle.state.proofs.Cutting.{pairs-within, part-of-all, part-is}
+use Rattle.state.proofs.Cutting.{total-within, part-of-all, part-is}
 use Rattle.passes.specs.Order.{lengthIn, lengthOf}
 use Rattle.passes.proofs.Inserting.{lengths-more}
 use Rattle.passes.proofs.order.lengths_of.Statement.{statement}
@@ -29,7 +29,7 @@ nodes-of-requires c κs =
     let at-loop : tie.At-loop Inv-loop μ-loop = search in
     let entry : tie.Start Inv-loop μ-loop = search in
     let p = entry .pre .0 in
-    let w = pairs-within (entry .args .sizes .now) (at-loop .loop .i) (omega arith) in
+    let w = total-within (entry .args .sizes .now) (at-loop .loop .i) (omega arith) in
     let e = c .front-at .ensures in omega arith
 
 front-length-requires : tie.Need-front-length-requires Inv-loop μ-loop

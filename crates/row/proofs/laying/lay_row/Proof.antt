@@ -8,7 +8,7 @@ use lib.Seq.{length-take-le}
 use Rattle.state.specs.State.{Held, cut}
 use Rattle.state.specs.Call.{held}
 use Rattle.state.specs.Sound.{Sound, sizesOf}
-use Rattle.state.proofs.Cutting.{pairs-within, part-is, cut-length}
+use Rattle.state.proofs.Cutting.{total-within, part-is, cut-length}
 use Rattle.state.proofs.Reading.{sound-counted, fits}
 use Rattle.row.specs.Room.{Room}
 use Rattle.row.proofs.Writing.{laid-is}
@@ -33,7 +33,7 @@ start c = search
 within : (c : tie.After-front-at) → c .front-at .result .start + c .front-at .result .len ≤ length (start c .args .front-nodes .now)
 within c =
     let s = start c in
-    let w = pairs-within (sizesOf (given s)) (s .args .li) (room s .front) in
+    let w = total-within (sizesOf (given s)) (s .args .li) (room s .front) in
     let f = fits (given s) (sound-counted (given s) (sound s)) in
     let fs = c .front-at .ensures .0 in
     let fl = c .front-at .ensures .1 in

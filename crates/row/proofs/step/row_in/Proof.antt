@@ -9,7 +9,7 @@ use lib.Seq.{length-take-le, getD-take}
 use Rattle.state.specs.State.{Held}
 use Rattle.state.specs.Call.{held}
 use Rattle.state.specs.Sound.{Sound, sizesOf}
-use Rattle.state.proofs.Cutting.{pairs-within}
+use Rattle.state.proofs.Cutting.{total-within}
 use Rattle.state.proofs.Reading.{sizes-long, fits, points-long, sound-counted}
 use Rattle.state.proofs.Zeros.{same-state, still-sound, now-clean}
 use Rattle.input.specs.Job.{Job, job}
@@ -122,7 +122,7 @@ mul-m c =
     let at-try-row : tie.After-try-row = search in
     let entry = start at-try-row in
     let s = sound entry in
-    let w = pairs-within (sizesOf (given entry)) (entry .args .li) (there entry) in
+    let w = total-within (sizesOf (given entry)) (entry .args .li) (there entry) in
     let n = size-is entry in
     let e = c .wide .ensures in omega arith
 

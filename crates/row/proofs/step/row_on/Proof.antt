@@ -6,7 +6,7 @@ use lib.Seq.{getD-take}
 use Rattle.state.specs.State.{Held}
 use Rattle.state.specs.Call.{held}
 use Rattle.state.specs.Sound.{Sound, sizesOf}
-use Rattle.state.proofs.Cutting.{pairs-within}
+use Rattle.state.proofs.Cutting.{total-within}
 use Rattle.state.proofs.Reading.{sizes-long, sound-counted}
 use borrow.Author.Needs.{needs}
 use Rattle.row.proofs.step.row_on.Statement.{statement}
@@ -56,7 +56,7 @@ row-in-requires-2 c κs =
     let p = entry .pre in
     let s : Sound (given entry) = p .0 in
     let hl : entry .args .li < length (sizesOf (given entry)) = rw (sizes-long (given entry) (sound-counted (given entry) s)) (p .1 .1 .0) in
-    let w = pairs-within (sizesOf (given entry)) (entry .args .li) hl in
+    let w = total-within (sizesOf (given entry)) (entry .args .li) hl in
     let n = getD-take (entry .args .counts .fronts) (entry .args .front-lengths .now) (entry .args .li) 0 (p .1 .1 .0) in
     (s, (p .1 .0, (p .1 .1, omega arith)))
 

@@ -12,7 +12,7 @@ use Rattle.geometry.specs.Domain.{sumOf}
 use Rattle.state.specs.State.{cut}
 use Rattle.rules.specs.Checks.{every, allClearOf}
 use Rattle.rules.proofs.Every.{every-none, every-more, every-stops, every-end, seen}
-use Rattle.state.proofs.Cutting.{pairs-more, pairs-within, part-of-all, part-is, length-cut}
+use Rattle.state.proofs.Cutting.{total-more, total-within, part-of-all, part-is, length-cut}
 use Rattle.row_checks.proofs.fronts.clear_of_fronts.Statement.{statement}
 use Rattle.row_checks.proofs.fronts.clear_of_fronts.Tie as tie
 
@@ -39,7 +39,7 @@ nodes-of-requires : tie.Need-nodes-of-requires Inv-loop μ-loop
 nodes-of-requires c κs =
     let at-loop : tie.At-loop Inv-loop μ-loop = search in
     let entry : tie.Start Inv-loop μ-loop = search in
-    let w = pairs-within (entry .args .lengths .now) _ (c .before .before .loop-test .taken) in let h = at-loop .loop .inv .1 in let e = c .wide .ensures in omega arith
+    let w = total-within (entry .args .lengths .now) _ (c .before .before .loop-test .taken) in let h = at-loop .loop .inv .1 in let e = c .wide .ensures in omega arith
 
 own-or-clear-requires : tie.Need-own-or-clear-requires Inv-loop μ-loop
 own-or-clear-requires c κs =
@@ -66,7 +66,7 @@ add-start c =
     let at-loop-test : tie.In-loop Inv-loop μ-loop = search in
     let at-loop : tie.At-loop Inv-loop μ-loop = search in
     let entry : tie.Start Inv-loop μ-loop = search in
-    let w = pairs-within (entry .args .lengths .now) _ (at-loop-test .loop-test .taken) in let h = at-loop .loop .inv .1 in let e = at-wide .wide .ensures in omega arith
+    let w = total-within (entry .args .lengths .now) _ (at-loop-test .loop-test .taken) in let h = at-loop .loop .inv .1 in let e = at-wide .wide .ensures in omega arith
 
 add-other : tie.Need-add-other Inv-loop μ-loop
 add-other c = omega arith
@@ -84,7 +84,7 @@ loop-again c =
     let e = part-is l xs _ (at-loop-test .loop-test .taken) (entry .pre .1 .0) _ _ _ (at-loop .loop .inv .1) (at-wide .wide .ensures) (c .before .before .nodes-of .ensures) in
     let p : ℕ → Bool = λ k. eqb k (a .li) || allClearOf (a .points .now) (getD (cut l xs) k []) (a .least) (a .row .now) (a .n) in
     let g : p (at-loop .loop .other) ≡ true = seen (λ (f : List ℕ). eqb (at-loop .loop .other) (a .li) || allClearOf (a .points .now) f (a .least) (a .row .now) (a .n)) (c .before .own-or-clear .ensures) e (not-false _ (c .if1 .left)) in
-    (omega arith, ap (λ t. at-loop .loop .start + t) (at-wide .wide .ensures) ∙ ap (λ t. t + getD l (at-loop .loop .other) 0) (at-loop .loop .inv .1) ∙ sym (pairs-more l (at-loop .loop .other) (at-loop-test .loop-test .taken)), every-more p (at-loop .loop .other) (at-loop .loop .inv .2) g)
+    (omega arith, ap (λ t. at-loop .loop .start + t) (at-wide .wide .ensures) ∙ ap (λ t. t + getD l (at-loop .loop .other) 0) (at-loop .loop .inv .1) ∙ sym (total-more l (at-loop .loop .other) (at-loop-test .loop-test .taken)), every-more p (at-loop .loop .other) (at-loop .loop .inv .2) g)
 
 returns-2 : tie.Need-returns-2 Inv-loop μ-loop
 returns-2 c =

@@ -8,7 +8,7 @@ use lib.ListN.{length, getD, take, drop}
 use Rattle.state.specs.State.{cut}
 use Rattle.input.specs.Job.{Job, job}
 use Rattle.row_checks.proofs.Literals.{twentieth-is}
-use Rattle.state.proofs.Cutting.{cut-at, cut-length, part-of-all, part-is, pairs-within}
+use Rattle.state.proofs.Cutting.{cut-at, cut-length, part-of-all, part-is, total-within}
 use Rattle.row_checks.proofs.Standing.{one-outside, one-at-boundary, one-quad-fails, one-near, crossing-decides}
 use borrow.Author.Needs.{needs}
 use Rattle.row_checks.proofs.row.rest_stands.Statement.{statement}
@@ -57,7 +57,7 @@ returns-2 c =
 nodes-of-requires : tie.Need-nodes-of-requires
 nodes-of-requires c κs =
     let entry : tie.Start = search in
-    let p = entry .pre in let w = pairs-within (entry .args .lengths .now) (entry .args .li) (p .0 .0) in omega arith
+    let p = entry .pre in let w = total-within (entry .args .lengths .now) (entry .args .li) (p .0 .0) in omega arith
 
 corner-limit-requires : tie.Need-corner-limit-requires
 corner-limit-requires c κs = search needs

@@ -15,7 +15,7 @@ use Rattle.rules.specs.Checks.{newPoints, allProject}
 use Rattle.rules.specs.Row.{rowNumber}
 use Rattle.row_checks.specs.Candidate.{tried}
 use Rattle.state.proofs.Basics.{twenty-two, twenty-one}
-use Rattle.state.proofs.Cutting.{cut-length, part-of-all, part-is, pairs-within}
+use Rattle.state.proofs.Cutting.{cut-length, part-of-all, part-is, total-within}
 use Rattle.row_checks.proofs.Standing.{too-few, no-projection, rest-fails, too-many-points, too-many-quads, stands, refused-all, passed-all, projected-row, renamed}
 use borrow.Author.Needs.{needs}
 use Rattle.row_checks.proofs.row.try_row.Statement.{statement}
@@ -44,7 +44,7 @@ sized c =
 within : (c : tie.After-front-at) → c .front-at .result .start + c .front-at .result .len ≤ length (start c .args .front-nodes .now)
 within c =
     let s = start c in
-    let u = pairs-within (s .args .lengths .now) (s .args .li) (s .pre .0 .0) in
+    let u = total-within (s .args .lengths .now) (s .args .li) (s .pre .0 .0) in
     let fs = c .front-at .ensures .0 in
     let fl = c .front-at .ensures .1 in
     omega arith

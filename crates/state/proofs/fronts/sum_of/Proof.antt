@@ -6,7 +6,7 @@ use native.Mathlib.Omega.{arith}
 use lib.ListN.{length, drop}
 use borrow.Author.Needs.{needs, scaled-fits}
 use Rattle.geometry.specs.Domain.{sumOf}
-use Rattle.state.proofs.Walk.{pairs-step, pairs-end}
+use Rattle.state.proofs.Walk.{total-step, total-end}
 use Rattle.state.proofs.fronts.sum_of.Statement.{statement}
 use Rattle.state.proofs.fronts.sum_of.Tie as tie
 
@@ -46,10 +46,10 @@ loop-again : tie.Need-loop-again Inv-loop μ-loop
 loop-again c =
     let at-read : tie.After-shared-slice-known2 Inv-loop μ-loop = search in
     let at-loop : tie.At-loop Inv-loop μ-loop = search in
-    (omega arith, pairs-step _ _ _ _ (at-loop .loop .inv .1) (c .wide .ensures) (c .before .before .loop-test .taken), omega (arith, at-read .shared-slice-known2 .given (at-loop .loop .i)))
+    (omega arith, total-step _ _ _ _ (at-loop .loop .inv .1) (c .wide .ensures) (c .before .before .loop-test .taken), omega (arith, at-read .shared-slice-known2 .given (at-loop .loop .i)))
 
 returns : tie.Need-returns Inv-loop μ-loop
-returns c = sym (add-zero _) ∙ pairs-end _ _ _ (c .before .loop .inv .1) (c .loop-test .left)
+returns c = sym (add-zero _) ∙ total-end _ _ _ (c .before .loop .inv .1) (c .loop-test .left)
 
 pub sum-of-spec : {M : Type 1} → statement M
 sum-of-spec =
