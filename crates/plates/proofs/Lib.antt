@@ -1,0 +1,2 @@
+pub mod Stated
+pub mod Stepping

@@ -1,0 +1,72 @@
+use mathlib.Core.Path.{_≡_, sym, _∙_}
+use mathlib.Core.Bool.{false}
+use borrow.Author.Needs.{needs}
+use Rattle.state.specs.State.{Held, lengths}
+use Rattle.state.specs.Call.{held, lengthsOf}
+use Rattle.state.specs.Given.{wrongState}
+use Rattle.state.proofs.Sounding as sounding
+use Rattle.plate_text.proofs.Answering.{long, put-same}
+use Rattle.plates.proofs.Stated.{unshown, stands}
+use Rattle.plates.proofs.showing.put_shown.Statement.{statement}
+use Rattle.plates.proofs.showing.put_shown.Tie as tie
+use Rattle.plates.proofs.showing.put_shown.Reads as reads
+use Rattle.plates.proofs.showing.put_shown.Lts as lts
+use Rattle.answer_text.proofs.put_state.Reads as put-state-reads
+use Rattle.state.proofs.wrong_state.Reads as wrong-state-reads
+
+abbrev given : tie.Start → Held
+given s = held (s .args .points .now) (s .args .quads .now) (s .args .front-nodes .now) (s .args .front-lengths .now) (s .args .counts)
+
+abbrev lent-from : tie.After-wrong-state-arg4 → tie.Start
+lent-from c = search
+
+right : (c : tie.After-wrong-state-arg4) → lengths (given (lent-from c)) ≡ lengthsOf 8192 16384 2048 16
+right c =
+    let third = c .before in
+    let second = third .before in
+    let entry = lent-from c in
+    long (entry .args .points .now) (entry .args .quads .now) (entry .args .front-nodes .now) (entry .args .front-lengths .now) (entry .args .counts) (second .before .wrong-state-arg .given .0) (second .wrong-state-arg2 .given .0) (third .wrong-state-arg3 .given .0) (c .wrong-state-arg4 .given .0)
+
+abbrev start-of : tie.Else1 → tie.Start
+start-of c = search
+
+not-wrong : (c : tie.Else1) → wrongState (given (start-of c)) ≡ false
+not-wrong c =
+    let at-wrong : tie.After-wrong-state = search in
+    sym (at-wrong .wrong-state .ensures) ∙ c .if1 .left
+
+-- src/showing.rt:44:8
+wrong-state-requires : tie.Need-wrong-state-requires
+wrong-state-requires c κs =
+    right c
+
+-- src/showing.rt:45:9
+returns : tie.Need-returns
+returns c =
+    let at-wrong : tie.After-wrong-state = search in
+    let entry : tie.Start = search in
+    unshown (given entry) (entry .args .out .now) (sym (at-wrong .wrong-state .ensures) ∙ c .if1 .taken)
+
+-- src/showing.rt:47:5
+put-state-requires : tie.Need-put-state-requires
+put-state-requires c κs =
+    let at-if1 : tie.Else1 = search in
+    let at-lent : tie.After-wrong-state-arg4 = search in
+    let entry : tie.Start = search in
+    (search needs, sounding.sound (given entry) (right at-lent) (not-wrong at-if1))
+
+-- src/showing.rt:33:1
+same-length : tie.Need-same-length
+same-length c = search needs
+
+-- src/showing.rt:33:1
+returns-2 : tie.Need-returns-2
+returns-2 c =
+    let at-put : tie.After-put-state = search in
+    let at-if1 : tie.Else1 = search in
+    let entry : tie.Start = search in
+    put-same (stands (given entry) (not-wrong at-if1)) (at-put .put-state .ensures .0)
+
+pub put-shown-spec : {M : Type 1} → statement M
+put-shown-spec =
+    tie.close (tie.spec wrong-state-requires returns put-state-requires same-length returns-2)
