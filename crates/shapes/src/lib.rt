@@ -1,5 +1,6 @@
 // Places, and the shapes of a plate at them, as SVG: outline, tiles, fronts and nodes, put into a lent buffer.
 mod fronts;
+mod least;
 mod places;
 mod rings;
 mod tiles;
@@ -7,7 +8,7 @@ mod tiles;
 pub use fronts::put_fronts;
 pub use fronts::put_nodes;
 pub use fronts::put_outline;
+pub use least::worst;
 pub use places::put_across;
 pub use places::put_up;
 pub use tiles::put_tiles;
-pub use tiles::worst;

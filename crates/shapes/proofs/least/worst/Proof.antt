@@ -1,4 +1,4 @@
--- `shapes::tiles::worst` meets its contract. The invariant: the least so far and that of the tiles from i on give the least of all. The measure is the tiles left.
+-- `shapes::least::worst` meets its contract. The invariant: the least so far and that of the tiles from i on give the least of all. The measure is the tiles left.
 use mathlib.Core.Path.{_≡_, sym, _∙_}
 use mathlib.Core.Bool.{false}
 use Prim.Native.Nat.{_+_, _-_, _*_, _≤_}
@@ -10,8 +10,8 @@ use Rattle.shapes.specs.Shapes.{worst}
 use Rattle.shapes.proofs.Turns.{worst-begin, worst-next, worst-end, four-long}
 use borrow.Author.Needs.{needs}
 use native.Mathlib.Omega.{arith}
-use Rattle.shapes.proofs.tiles.worst.Statement.{statement}
-use Rattle.shapes.proofs.tiles.worst.Tie as tie
+use Rattle.shapes.proofs.least.worst.Statement.{statement}
+use Rattle.shapes.proofs.least.worst.Tie as tie
 
 abbrev Inv-loop : tie.InvT-loop
 Inv-loop points quads n least₀ i₀ least i = (i ≤ n) × (worst least points (quadsOf (n - i) (drop (i * 4) quads)) ≡ worst (inf false) points (quadsOf n quads))

@@ -1,7 +1,7 @@
--- `shapes::tiles::worst_of` meets its contract.
+-- `shapes::least::worst_of` meets its contract.
 use borrow.Author.Needs.{needs}
-use Rattle.shapes.proofs.tiles.worst_of.Statement.{statement}
-use Rattle.shapes.proofs.tiles.worst_of.Tie as tie
+use Rattle.shapes.proofs.least.worst_of.Statement.{statement}
+use Rattle.shapes.proofs.least.worst_of.Tie as tie
 
 shared-slice-read-place-of : tie.Need-shared-slice-read-place-of
 shared-slice-read-place-of c = search needs
