@@ -14,11 +14,11 @@ use Rattle.text.proofs.field_end.Reads as field-end-reads
 
 -- src/words.rt:47:5
 line-requires : tie.Need-line-requires
-line-requires c κs = search needs
+line-requires c κs = tt
 
 -- src/words.rt:48:21
 large-buffer-requires : tie.Need-large-buffer-requires
-large-buffer-requires c κs = search needs
+large-buffer-requires c κs = tt
 
 -- src/words.rt:49:9
 field-end-requires : tie.Need-field-end-requires
@@ -26,7 +26,7 @@ field-end-requires c κs = search needs
 
 -- src/words.rt:51:13
 read-file-requires : tie.Need-read-file-requires
-read-file-requires c κs = search needs
+read-file-requires c κs = tt
 
 -- src/words.rt:52:14
 array-share-prefix-input : tie.Need-array-share-prefix-input
@@ -38,11 +38,11 @@ slice-aggregate-pave c = search needs
 
 -- src/words.rt:52:9
 pave-requires : tie.Need-pave-requires
-pave-requires c κs = search needs
+pave-requires c κs = tt
 
 -- src/words.rt:53:9
 returns : tie.Need-returns
-returns c = search needs
+returns c = tt
 
 -- src/words.rt:55:23
 slice-aggregate-read-file : tie.Need-slice-aggregate-read-file
@@ -52,7 +52,7 @@ slice-aggregate-read-file c =
 
 -- src/words.rt:55:9
 read-file-requires-2 : tie.Need-read-file-requires-2
-read-file-requires-2 c κs = search needs
+read-file-requires-2 c κs = tt
 
 -- src/words.rt:56:19
 add-letters : tie.Need-add-letters
@@ -80,11 +80,11 @@ part-call-end c = search needs
 
 -- src/words.rt:57:5
 call-requires : tie.Need-call-requires
-call-requires c κs = search needs
+call-requires c κs = tt
 
 -- src/words.rt:46:1
 returns-2 : tie.Need-returns-2
-returns-2 c = search needs
+returns-2 c = tt
 
 pub answer-spec : {M : Type 1} → statement M
 answer-spec =

@@ -27,15 +27,15 @@ enum-known-size c = search needs
 
 -- src/words.rt:34:9
 returns : tie.Need-returns
-returns c = search needs
+returns c = tt
 
 -- src/words.rt:37:9
 returns-2 : tie.Need-returns-2
-returns-2 c = search needs
+returns-2 c = tt
 
 -- src/words.rt:40:9
 returns-3 : tie.Need-returns-3
-returns-3 c = search needs
+returns-3 c = tt
 
 -- src/words.rt:42:18
 mul-floats : tie.Need-mul-floats
@@ -43,7 +43,7 @@ mul-floats c = search needs
 
 -- src/words.rt:43:15
 defaults-requires : tie.Need-defaults-requires
-defaults-requires c κs = search needs
+defaults-requires c κs = tt
 
 -- src/words.rt:43:27
 array-share-prefix-coords : tie.Need-array-share-prefix-coords
@@ -67,11 +67,11 @@ slice-aggregate-run-2 c =
 
 -- src/words.rt:43:5
 run-requires : tie.Need-run-requires
-run-requires c κs = search needs
+run-requires c κs = tt
 
 -- src/words.rt:30:1
 returns-4 : tie.Need-returns-4
-returns-4 c = search needs
+returns-4 c = tt
 
 pub call-spec : {M : Type 1} → statement M
 call-spec =
