@@ -1,2 +1,2 @@
+pub mod Calls
 pub mod Shown
-pub mod Steps

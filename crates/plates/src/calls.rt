@@ -1,35 +1,18 @@
 // Row, closing and fan calls on a state, one after the other.
 ghost use mathlib.Core.Path.{_≡_};
 ghost use Rattle.input.specs.Job.{job};
-ghost use Rattle.state.specs.Call.{held, left};
-ghost use Rattle.plates.specs.Steps.{stepCall, after};
-use crate::showing::line;
-use crate::showing::number_line;
+ghost use Rattle.state.specs.Call.{answerCounts, held, left};
+ghost use Rattle.plates.specs.Calls.{letterCall, after};
+use crate::showing::show_refused;
 use crate::showing::show_state;
-use crate::starting::Start;
 use crate::starting::begin;
-use crate::starting::say_start;
 use input::Options;
 use state::Answer;
 use state::Counts;
 
-// A step is a row on the front of its number, or one of these two.
-pub const CLOSE: u64 = 16;
-
-pub const FAN: u64 = 17;
-
-fn say_step(step: u64) {
-    if step == CLOSE {
-        line(b"close");
-    } else if step == FAN {
-        line(b"fan");
-    } else {
-        number_line(b"row", step);
-    }
-}
-
+// The closings for `c`, the fan for `f`, and for a digit a row on the front of this number.
 fn make(
-    step: u64,
+    letter: u8,
     coords: &[f64],
     loops: &[u16],
     h: f64,
@@ -41,9 +24,9 @@ fn make(
     counts: Counts,
 ) -> Answer
     ensures { λ r. ⌜ left r (held (now (points .exit)) (now (quads .exit)) (now («front_nodes» .exit)) (now («front_lengths» .exit)) counts)
-        ≡ stepCall (job (now (coords .entry)) (now (loops .entry)) h options) step (held (now (points .entry)) (now (quads .entry)) (now («front_nodes» .entry)) (now («front_lengths» .entry)) counts) ⌝ }
+        ≡ letterCall (job (now (coords .entry)) (now (loops .entry)) h options) letter (held (now (points .entry)) (now (quads .entry)) (now («front_nodes» .entry)) (now («front_lengths» .entry)) counts) ⌝ }
 {
-    if step == CLOSE {
+    if letter == b'c' {
         return closing::close(
             coords,
             loops,
@@ -56,7 +39,7 @@ fn make(
             counts,
         );
     }
-    if step == FAN {
+    if letter == b'f' {
         return fan::fan(
             coords,
             loops,
@@ -74,7 +57,7 @@ fn make(
         loops,
         h,
         options,
-        step,
+        (letter % 16) as u64,
         points,
         quads,
         front_nodes,
@@ -83,50 +66,26 @@ fn make(
     )
 }
 
-// Makes a step and prints its line, and that of its refusal, which changes nothing. The counts after it.
-fn make_said(
-    step: u64,
-    coords: &[f64],
-    loops: &[u16],
-    h: f64,
-    options: Options,
-    points: &mut [f64; 8192],
-    quads: &mut [u16; 16384],
-    front_nodes: &mut [u16; 2048],
-    front_lengths: &mut [u16; 16],
-    counts: Counts,
-) -> Counts
-    ensures { λ r. ⌜ held (now (points .exit)) (now (quads .exit)) (now («front_nodes» .exit)) (now («front_lengths» .exit)) r
-        ≡ stepCall (job (now (coords .entry)) (now (loops .entry)) h options) step (held (now (points .entry)) (now (quads .entry)) (now («front_nodes» .entry)) (now («front_lengths» .entry)) counts) .held ⌝ }
+// The counts after an answer. A refusal is printed, and changes nothing.
+fn counts_after(counts: Counts, answer: Answer) -> Counts
+    ensures { λ r. ⌜ r ≡ answerCounts counts answer ⌝ }
 {
-    say_step(step);
-    match make(
-        step,
-        coords,
-        loops,
-        h,
-        options,
-        points,
-        quads,
-        front_nodes,
-        front_lengths,
-        counts,
-    ) {
+    match answer {
         Answer::Done(more) => more,
         Answer::Refused(number) => {
-            number_line(b"refused", number as u64);
+            show_refused(number);
             counts
         }
     }
 }
 
-// Makes the steps in turn. The counts after them.
+// Makes the calls in turn. The counts after them.
 fn make_all(
     coords: &[f64],
     loops: &[u16],
     h: f64,
     options: Options,
-    steps: &[u64],
+    letters: &[u8],
     points: &mut [f64; 8192],
     quads: &mut [u16; 16384],
     front_nodes: &mut [u16; 2048],
@@ -134,13 +93,13 @@ fn make_all(
     start: Counts,
 ) -> Counts
     ensures { λ r. ⌜ held (now (points .exit)) (now (quads .exit)) (now («front_nodes» .exit)) (now («front_lengths» .exit)) r
-        ≡ after (job (now (coords .entry)) (now (loops .entry)) h options) (now (steps .entry)) (held (now (points .entry)) (now (quads .entry)) (now («front_nodes» .entry)) (now («front_lengths» .entry)) start) ⌝ }
+        ≡ after (job (now (coords .entry)) (now (loops .entry)) h options) (now (letters .entry)) (held (now (points .entry)) (now (quads .entry)) (now («front_nodes» .entry)) (now («front_lengths» .entry)) start) ⌝ }
 {
     let mut counts = start;
     let mut k = 0usize;
-    while k < steps.len() {
-        counts = make_said(
-            steps[k],
+    while k < letters.len() {
+        let answer = make(
+            letters[k],
             coords,
             loops,
             h,
@@ -151,20 +110,23 @@ fn make_all(
             front_lengths,
             counts,
         );
+        counts = counts_after(counts, answer);
         k += 1;
     }
     counts
 }
 
-// Starts on a job, makes the steps, and shows the state that it comes to. The buffers start full of other numbers.
-pub fn run(h: f64, options: Options, coords: &[f64], loops: &[u16], start: Start, steps: &[u64]) {
+// The state of the first letter, the calls of the others, and the state that they come to. The buffers start full of other numbers.
+pub fn run(h: f64, options: Options, coords: &[f64], loops: &[u16], letters: &[u8]) {
+    if letters.len() == 0 {
+        return;
+    }
     let mut points = [7.5; 8192];
     let mut quads = [9u16; 16384];
     let mut front_nodes = [9u16; 2048];
     let mut front_lengths = [9u16; 16];
-    say_start(start);
     match begin(
-        start,
+        letters[0],
         coords,
         loops,
         h,
@@ -174,14 +136,14 @@ pub fn run(h: f64, options: Options, coords: &[f64], loops: &[u16], start: Start
         &mut front_nodes,
         &mut front_lengths,
     ) {
-        Answer::Refused(number) => number_line(b"refused", number as u64),
+        Answer::Refused(number) => show_refused(number),
         Answer::Done(first) => {
             let counts = make_all(
                 coords,
                 loops,
                 h,
                 options,
-                steps,
+                &letters[1..],
                 &mut points,
                 &mut quads,
                 &mut front_nodes,

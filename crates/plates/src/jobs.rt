@@ -1,56 +1,39 @@
 // Jobs that no text can say: sizes, coordinates and options.
 use crate::calls::run;
 use crate::showing::line;
-use crate::starting::Start;
 use input::Options;
 use input::defaults;
 
-fn pave(name: &[u8], h: f64, options: Options, coords: &[f64], loops: &[u16]) {
+fn pave(name: &[u8], h: f64, options: Options, coords: &[f64]) {
     line(name);
-    run(h, options, coords, loops, Start::Paved, &[]);
+    let n = coords.len() / 2;
+    if n < 65536 {
+        run(h, options, coords, &[state::narrow(n)], b"j");
+    }
 }
 
-// The square of side 3,000 in three sizes, the last with one pass more than 64.
-fn squares() {
+// The square of side 3,000 with two sizes.
+fn sizes() {
     let square = [0.0, 0.0, 3000.0, 0.0, 3000.0, 3000.0, 0.0, 3000.0];
-    pave(b"size 0", 0.0, defaults(), &square, &[4]);
-    pave(b"size 0.0005", 0.0005, defaults(), &square, &[4]);
-    let mut many = defaults();
-    many.max_row_rounds = 65;
-    pave(b"65 passes", 1000.0, many, &square, &[4]);
+    pave(b"size 0", 0.0, defaults(), &square);
+    pave(b"size 0.0005", 0.0005, defaults(), &square);
 }
 
-// A coordinate beyond the limit, and sides of 1e-12.
+// Sides of 1e-12.
 fn sides() {
+    let three = [0.0, 0.0, 1e-12, 0.0, 0.5, 0.5];
     pave(
-        b"3000000 by 2000000",
-        1000000.0,
-        defaults(),
-        &[
-            0.0,
-            0.0,
-            3000000.0,
-            0.0,
-            3000000.0,
-            2000000.0,
-            0.0,
-            2000000.0,
-        ],
-        &[4],
-    );
-    pave(
-        b"a triangle with a side of 1e-12",
+        b"three points, two of them 1e-12 apart",
         1.0,
         defaults(),
-        &[0.0, 0.0, 1e-12, 0.0, 0.5, 0.5],
-        &[3],
+        &three,
     );
+    let five = [0.0, 0.0, 1e-12, 0.0, 1.0, 0.0, 1.0, 1.0, 0.0, 1.0];
     pave(
-        b"a square with a fifth point 1e-12 from a corner",
+        b"five points, two of them 1e-12 apart",
         1.0,
         defaults(),
-        &[0.0, 0.0, 1e-12, 0.0, 1.0, 0.0, 1.0, 1.0, 0.0, 1.0],
-        &[5],
+        &five,
     );
 }
 
@@ -63,17 +46,12 @@ fn other_options() {
         max_row_rounds: 1,
         seam: false,
     };
-    pave(
-        b"other options",
-        1000.0,
-        options,
-        &[0.0, 0.0, 10000.0, 0.0, 10000.0, 10000.0, 0.0, 10000.0],
-        &[4],
-    );
+    let square = [0.0, 0.0, 10000.0, 0.0, 10000.0, 10000.0, 0.0, 10000.0];
+    pave(b"other options", 1000.0, options, &square);
 }
 
 pub fn jobs() {
-    squares();
+    sizes();
     sides();
     other_options();
 }

@@ -1,16 +1,12 @@
 // Plates that the Rust answered, run through the port. What is printed is held to the file `stdout`, which oracle/record writes from
-// the Rust's answers.
+// the Rust's answers, with the words of `args` and the texts of `data`.
 mod calls;
 mod jobs;
 mod showing;
 mod starting;
-mod states;
-mod texts;
+mod words;
 
 fn main() {
-    texts::pave_arguments();
+    words::answer_words();
     jobs::jobs();
-    states::rows();
-    states::closings();
-    states::fans();
 }

@@ -21,11 +21,9 @@ pub fn show_text(out: &[u8], n: usize) {
     }
 }
 
-// A word, a tab and a number.
-pub fn number_line(word: &[u8], n: u64) {
-    io::write_all(1, word);
-    io::write_all(1, b"\t");
-    io::print_decimal(1, n);
+pub fn show_refused(number: u32) {
+    io::write_all(1, b"refused\t");
+    io::print_decimal(1, number as u64);
     io::write_all(1, b"\n");
 }
 

@@ -1,23 +1,9 @@
-// The states that the calls start from.
+// The states that calls are made on.
 use input::Options;
 use state::Answer;
 use state::Counts;
 
-// What sampling makes of a job, what the whole job leaves, or the outline's points with one front of so many of them.
-pub enum Start {
-    Sampled,
-    Paved,
-    Front(usize),
-}
-
-pub fn say_start(start: Start) {
-    match start {
-        Start::Sampled => crate::showing::line(b"sample"),
-        Start::Paved => crate::showing::line(b"job"),
-        Start::Front(n) => crate::showing::number_line(b"front", n as u64),
-    }
-}
-
+// The outline's points, with one front of the first `n`.
 fn one_front(
     coords: &[f64],
     n: usize,
@@ -46,8 +32,9 @@ fn one_front(
     })
 }
 
+// What sampling makes of a job for `s`, what the whole job leaves for `j`, and for a digit one front of so many nodes.
 pub fn begin(
-    start: Start,
+    letter: u8,
     coords: &[f64],
     loops: &[u16],
     h: f64,
@@ -57,8 +44,8 @@ pub fn begin(
     front_nodes: &mut [u16; 2048],
     front_lengths: &mut [u16; 16],
 ) -> Answer {
-    match start {
-        Start::Sampled => sampling::sample(
+    if letter == b's' {
+        return sampling::sample(
             coords,
             loops,
             h,
@@ -67,17 +54,25 @@ pub fn begin(
             quads,
             front_nodes,
             front_lengths,
-        ),
-        Start::Paved => job::job(
-            coords,
-            loops,
-            h,
-            options,
-            points,
-            quads,
-            front_nodes,
-            front_lengths,
-        ),
-        Start::Front(n) => one_front(coords, n, points, front_nodes, front_lengths),
+        );
     }
+    if letter == b'j' {
+        return job::job(
+            coords,
+            loops,
+            h,
+            options,
+            points,
+            quads,
+            front_nodes,
+            front_lengths,
+        );
+    }
+    one_front(
+        coords,
+        (letter % 16) as usize,
+        points,
+        front_nodes,
+        front_lengths,
+    )
 }
