@@ -8,6 +8,7 @@
 //! compare job SEED COUNT         COUNT whole jobs and a tenth as many near the limits, and on what each left a fan, rows and the
 //!                                closings, and the three on a state made from it; the jobs by name; and on the port's own
 //!                                answers demand 3: a tenth as many pairs of pass limits, with pair counts and corners
+//! compare demands SEED COUNT     the last part of this alone: demand 3 under COUNT pairs of pass limits
 //! compare text SEED COUNT        COUNT texts, written and damaged
 //! compare all SEED HOURS         all kinds in turn, a new seed each round, for so many hours (0.1 are six minutes) or until something
 //!                                differs; then the input is made smaller and printed. The last line says the seed to go on with
@@ -199,6 +200,7 @@ fn main() {
         "close" => close(seed, count),
         "fan" => fan(seed, count),
         "job" => job(seed, count),
+        "demands" => demand(seed, count),
         "text" => text::run(seed, count),
         "guard" => guard::run(seed, count),
         "threads" => threads::run(seed, count),
@@ -210,6 +212,6 @@ fn main() {
 }
 
 fn stop() -> ! {
-    eprintln!("compare [root|functions|sample|rows|close|fan|job|guard|threads|stack] SEED COUNT, all SEED HOURS, or request");
+    eprintln!("compare [root|functions|sample|rows|close|fan|job|demands|guard|threads|stack] SEED COUNT, all SEED HOURS, or request");
     exit(2)
 }

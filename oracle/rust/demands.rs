@@ -8,6 +8,7 @@ use crate::compare::Paver;
 use crate::functions::quad_ok;
 use crate::extremes;
 use crate::generate::{self, Random};
+use crate::limits::MAX_PASSES;
 use crate::requests::job_lines;
 use std::collections::BTreeMap;
 
@@ -298,7 +299,12 @@ pub fn pairs(p: &mut dyn Paver, seed: u64, count: u64) -> Report {
         if large.counts.row_rounds == 0 && r.chance(80) {
             continue;
         }
-        let less = if large.counts.row_rounds == 0 { r.below(more.min(64) + 1) } else { r.below(large.counts.passes) };
+        let less = match large.counts.row_rounds {
+            // over 64 passes both are refused
+            _ if more > MAX_PASSES => more,
+            0 => r.below(more + 1),
+            _ => r.below(large.counts.passes),
+        };
         if let Some(fault) = check(p, &mut report, r, &made.job, less, more) {
             found(&mut report, &format!("seed {seed} job {index} ({}, {})", made.shape, made.change), &made.job, less, more, fault);
         }
