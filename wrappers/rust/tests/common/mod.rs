@@ -18,6 +18,8 @@ pub fn texts(folder: &str) -> Vec<PathBuf> {
     let entries = fs::read_dir(top().join(folder)).unwrap_or_else(|e| panic!("{folder}: {e}"));
     let mut paths: Vec<PathBuf> = entries.map(|entry| entry.unwrap().path()).collect();
     paths.retain(|path| path.extension().is_some_and(|end| end == "txt"));
+    // in plates/ this one is a job's text and no request; plates/jobs has it too
+    paths.retain(|path| folder != "plates" || !path.ends_with("square.txt"));
     paths.sort();
     paths
 }
