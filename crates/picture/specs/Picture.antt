@@ -35,11 +35,11 @@ pictureRoom = 1638400
 
 -- what the call leaves: its result, and the whole content of the buffer
 pub record Drawn : Type 0 where
-  pub length : ℕ
+  pub result : ℕ
   pub out : List ℕ
 
 abbrev pub drawnIn : ℕ → List ℕ → Drawn
-drawnIn n out = record { length = n; out = out }
+drawnIn n out = record { result = n; out = out }
 
 -- A shorter buffer is left as it was, and the result is 0. Otherwise the picture with zeros behind it, and the picture's length.
 unfoldable pub drawCall : List ℕ → List ℕ → Drawn

@@ -28,11 +28,11 @@ textRoom = 270336
 
 -- what the call leaves: its result, and the whole content of the buffer
 pub record Texted : Type 0 where
-  pub length : ℕ
+  pub result : ℕ
   pub out : List ℕ
 
 abbrev pub texted : ℕ → List ℕ → Texted
-texted n out = record { length = n; out = out }
+texted n out = record { result = n; out = out }
 
 -- A shorter buffer is left as it was, and the result is 0. Otherwise the answer's text with zeros behind it, and the text's length.
 unfoldable pub textCall : List ℕ → List ℕ → Texted
