@@ -1,2 +1,2 @@
-pub mod Measures
+pub mod Tests
 pub mod Lengths

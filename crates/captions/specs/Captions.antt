@@ -9,7 +9,7 @@ use Rattle.state.specs.declared.Counts.{Counts}
 use Rattle.text.specs.Decimal.{decimalText}
 use Rattle.text.specs.Words.{ascii}
 use Rattle.shapes.specs.Places.{acrossText}
-use Rattle.captions.specs.Views.{headText, captionText, closing}
+use Rattle.frames.specs.Views.{closing, plainHead, plainCaption}
 
 -- ---- a plate that is paved: the counts, and the least corner value where there are tiles
 
@@ -70,12 +70,6 @@ unfoldable pub refusedCaption : ℕ → List ℕ
 refusedCaption n = joined (ascii "refused " ∷ decimalText n ∷ ascii ": " ∷ inputSentence n ∷ loopSentence n ∷ sizeSentence n ∷ [])
 
 -- ---- words alone: for a text that is no job, or has no point, or too many loops or points to draw
-
-unfoldable pub plainHead : List ℕ
-plainHead = headText (ascii "0 0 720 40") (ascii "10")
-
-unfoldable pub plainCaption : List ℕ
-plainCaption = captionText (ascii "360") (ascii "25")
 
 unfoldable pub wordsText : ℕ → List ℕ
 wordsText n = joined (plainHead ∷ plainCaption ∷ refusedCaption n ∷ closing ∷ [])

@@ -1,12 +1,12 @@
 // The line of words under a plate, and a picture of words alone.
 ghost use Rattle.text.specs.Putting.{Put, Room};
 ghost use Rattle.captions.specs.Captions as captions;
-use crate::heads::put_closing;
-use crate::heads::put_plain_caption;
-use crate::heads::put_plain_head;
 use crate::sentences::put_input_sentence;
 use crate::sentences::put_loop_sentence;
 use crate::sentences::put_size_sentence;
+use frames::put_closing;
+use frames::put_plain_caption;
+use frames::put_plain_head;
 use shapes::put_across;
 use state::Counts;
 use text::put_bytes;

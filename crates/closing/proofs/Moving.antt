@@ -1,17 +1,12 @@
 -- Numbers moved down within a buffer, one place a turn.
-use mathlib.Core.Path.{_≡_, refl, sym, _∙_, ap}
-use mathlib.Core.List.{List, [], _∷_}
-use Prim.Native.Nat.{ℕ, suc, _+_, _<_, _≤_}
+use mathlib.Core.Path.{_≡_, sym, _∙_, ap}
+use mathlib.Core.List.{List}
+use Prim.Native.Nat.{ℕ, _+_, _<_, _≤_}
 use native.Mathlib.Nat.{add-zero}
 use native.Mathlib.Omega.{arith}
 use lib.ListN.{length, getD, take, drop, set, length-drop}
-use lib.Seq.{sets, getD-drop, drop-set-lt, length-take-le}
-use Rattle.state.proofs.Growing.{copied}
-
--- what is behind the places that were written
-pub drop-behind : {A : Type 0} (ys xs : List A) (n s : ℕ) → s + length ys ≤ n → drop n (sets xs s ys) ≡ drop n xs
-drop-behind [] xs n s h = refl
-drop-behind (y ∷ ys) xs n s h = drop-behind ys (set xs s y) n (suc s) (omega arith) ∙ drop-set-lt n xs s y (omega arith)
+use lib.Seq.{sets, getD-drop, length-take-le}
+use Rattle.state.proofs.Growing.{copied, drop-behind}
 
 pub behind-sets : {A : Type 0} (ys xs : List A) (s k : ℕ) (z : A) → s + length ys ≤ k → getD (sets xs s ys) k z ≡ getD xs k z
 behind-sets ys xs s k z h =

@@ -11,11 +11,11 @@ use lib.Seq.{sets, getD-take, length-take-le}
 use Rattle.geometry.specs.Domain.{sumOf}
 use Rattle.state.specs.State.{cut, joined, padded}
 use Rattle.state.proofs.Cutting.{total-more, total-all, total-within, part-is, cut-length}
-use Rattle.state.proofs.Growing.{joined-append}
+use Rattle.state.proofs.Growing.{joined-append, drop-behind}
 use Rattle.state.proofs.Stores.{sets-append, front-padded}
 use Rattle.closing.specs.declared.keeping.Place.{Place}
 use Rattle.closing.specs.Keeping.{keptBy}
-use Rattle.closing.proofs.Moving.{drop-behind, behind-sets}
+use Rattle.closing.proofs.Moving.{behind-sets}
 
 -- the buffers N and L hold the fronts, as many as there are marks
 module _ (N L : List ℕ) (marks : List Bool) where

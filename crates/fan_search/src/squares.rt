@@ -4,29 +4,9 @@ ghost use mathlib.Core.Path.{_≡_};
 ghost use Prim.Native.Nat.{ℕ, _*_, _+_, _<_};
 ghost use lib.ListN.{getD, length};
 ghost use Rattle.geometry.specs.Rings.{nodeRing};
-ghost use Rattle.geometry.specs.Measures.{shortInPaving};
-ghost use Rattle.geometry.specs.Squares.{segmentSquare};
 ghost use Rattle.fan_search.specs.Squares.{Seen, sideSquare};
 use crate::Sides;
 use geometry::Point;
-
-// The square of the distance from `p` to the side from `a` to `b`. (geometry has the same for its own use.)
-fn segment_square(p: Point, a: Point, b: Point) -> f64
-    ensures { λ r. ⌜ r ≡ segmentSquare shortInPaving p a b ⌝ }
-{
-    let abx = b.x - a.x;
-    let aby = b.y - a.y;
-    let apx = p.x - a.x;
-    let apy = p.y - a.y;
-    let length2 = abx * abx + aby * aby;
-    if length2 <= 1e-18 {
-        return apx * apx + apy * apy;
-    }
-    let t = float::clamp_unit((apx * abx + apy * aby) / length2);
-    let qpx = p.x - (a.x + t * abx);
-    let qpy = p.y - (a.y + t * aby);
-    qpx * qpx + qpy * qpy
-}
 
 // The square of the distance from `p` to the side at place `i`.
 pub fn side_square(p: Point, points: &[f64], nodes: &[u16], i: usize) -> f64
@@ -37,7 +17,7 @@ pub fn side_square(p: Point, points: &[f64], nodes: &[u16], i: usize) -> f64
     let j = geometry::next_of(nodes.len(), i);
     let a = geometry::node_point(points, nodes, i);
     let b = geometry::node_point(points, nodes, j);
-    segment_square(p, a, b)
+    geometry::segment_square(1e-18, p, a, b)
 }
 
 // Side by side up to the first whose square is at most `bound`.

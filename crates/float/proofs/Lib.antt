@@ -12,6 +12,7 @@ pub mod Close
 pub mod Squares
 pub mod Nearest
 pub mod Order
+pub mod Clear
 pub mod Least
 pub mod Within
 pub mod Lengths

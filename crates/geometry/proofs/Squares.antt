@@ -28,7 +28,7 @@ pick-square false s u = u
 square-to : (a b : Point) → Square (squareTo a b)
 square-to a b = record { held = add-fits binary64 _ _; sign = clear-sum _ _ (clear-square _) (clear-square _) }
 
-segment-square : (short : Float) (p a b : Point) → Square (segmentSquare short p a b)
+pub segment-square : (short : Float) (p a b : Point) → Square (segmentSquare short p a b)
 unfolding segmentSquare
 segment-square short p a b = pick-square (le (squareTo a b) short) (square-to a p) (square-to _ p)
 
@@ -102,6 +102,9 @@ infinite = record { square = record { held = tt; sign = tt }; number = tt }
 infinite-root : root (inf false) ≡ inf false
 unfolding root
 infinite-root = refl
+
+pub front-least : (p : Point) (r : Ring) (k : ℕ) → Least (leastSquare shortInPaving p (inf false) r k)
+front-least p r k = least p r infinite shortInPaving k
 
 -- `front_distance` takes one root
 pub front-root : (p : Point) (r : Ring) (k : ℕ) → root (leastSquare shortInPaving p (inf false) r k) ≡ ringDistance (inf false) p r k

@@ -30,6 +30,7 @@ pub use rings::sharp_at;
 pub use rings::signed_area;
 pub use sides::ray_crosses;
 pub use sides::segment_distance;
+pub use sides::segment_square;
 pub use sides::segments_cross;
 pub use sides::side_length;
 

@@ -23,7 +23,8 @@ use Rattle.job_text.specs.declared.lines.Measure.the-variants as measure
 use Rattle.job_text.specs.declared.loops.LoopsRead.{LoopsRead}
 use Rattle.job_text.specs.declared.loops.LoopsRead.the-variants as loopsRead
 use Rattle.job_text.specs.declared.jobs.JobRead.the-variants as jobRead
-use Rattle.job_text.proofs.Ending.{EndOf, size-end, some-is}
+use Rattle.job_text.proofs.Steps.{some-is}
+use Rattle.job_text.proofs.Ending.{EndOf, size-end}
 use Rattle.job_text.proofs.Points.{There, measured, not-measured}
 use Rattle.job_text.proofs.Storing.{length-coordinates}
 

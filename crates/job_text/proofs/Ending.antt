@@ -2,7 +2,7 @@
 use mathlib.Core.Path.{_≡_, refl, sym, _∙_, ap}
 use mathlib.Core.Bool.{Bool, true, false, cond}
 use mathlib.Core.List.{List, [], _∷_}
-use mathlib.Core.Option.{Option, none, some}
+use mathlib.Core.Option.{none, some}
 use Prim.Native.Nat.{ℕ, _+_, _≤_}
 use native.Mathlib.Omega.{arith}
 use lib.IntN.{ℤ}
@@ -13,8 +13,9 @@ use Rattle.text.specs.Decimal.{naturalOf, wholeOf}
 use Rattle.text.specs.Fields.{field, afterField, behind}
 use Rattle.text.proofs.FieldLaws.{after-is, field-short, behind-is}
 use Rattle.job_text.specs.Drawing.{Place, atWord, coordinateMost, sizeMost}
-use Rattle.job_text.specs.Reading.{Read, read, andThen, readWhole, readAt, readSize}
+use Rattle.job_text.specs.Reading.{Read, read, readWhole, readAt, readSize}
 use Rattle.job_text.specs.Answers.{placeIn}
+use Rattle.job_text.proofs.Steps.{then-only, some-is}
 
 -- r is t without its first `skipped` bytes, which are at least `least`
 pub record EndOf (least : ℕ) (t r : List ℕ) : Type 0 where
@@ -72,23 +73,15 @@ word-end w t e = let b = behind-is w t e in record { skipped = length w; from = 
 pub after-end : (t : List ℕ) → EndOf 0 t (afterField t)
 after-end t = record { skipped = length (field t); from = omega arith; within = field-short t; is = after-is t }
 
-pub then-some : {A B : Type 0} (o : Option A) (f : A → Option B) {b : B} → andThen o f ≡ some b → (a : A) × (o ≡ some a) × (f a ≡ some b)
-unfolding andThen
-then-some none f e = let z : _≡_ {A = ℕ} 0 1 = cc in absurd (omega arith)
-then-some (some a) f e = (a, refl, e)
-
-pub some-is : {A : Type 0} {x y : A} → _≡_ {A = Option A} (some x) (some y) → x ≡ y
-some-is e = cc
-
 pub whole-end : (t : List ℕ) {r : Read ℤ} → readWhole t ≡ some r → EndOf 0 t (r .rest)
 unfolding readWhole
 whole-end t {r} e =
-    let s = then-some (wholeOf coordinateMost (field t)) (λ (n : ℤ). some (read n (afterField t))) e in
+    let s = then-only (wholeOf coordinateMost (field t)) (λ (n : ℤ). some (read n (afterField t))) e in
     end-same (after-end t) (ap (λ (q : Read ℤ). q .rest) (some-is (s .2)))
 
 pub size-end : (t : List ℕ) {r : Read ℕ} → readSize t ≡ some r → EndOf 0 t (r .rest)
 unfolding readSize
-size-end t {r} e = let s = then-some (naturalOf sizeMost (field t)) _ e in by (s .0) (eqb (s .0) 0) (s .2)
+size-end t {r} e = let s = then-only (naturalOf sizeMost (field t)) _ e in by (s .0) (eqb (s .0) 0) (s .2)
   where
     by : (n : ℕ) (b : Bool) → cond b none (some (read n (afterField t))) ≡ some r → EndOf 0 t (r .rest)
     by n true e = let z : _≡_ {A = ℕ} 0 1 = cc in absurd (omega arith)
@@ -98,11 +91,11 @@ size-end t {r} e = let s = then-some (naturalOf sizeMost (field t)) _ e in by (s
 pub at-end : (t : List ℕ) {r : Read Place} → readAt t ≡ some r → EndOf 5 t (r .rest)
 unfolding readAt
 at-end t e =
-    let a = then-some (behind atWord t) _ e in
-    let x = then-some (readWhole (a .0)) _ (a .2) in
-    let b = then-some (behind (9 ∷ []) (x .0 .rest)) _ (x .2) in
-    let y = then-some (readWhole (b .0)) _ (b .2) in
-    let z = then-some (behind (10 ∷ []) (y .0 .rest)) _ (y .2) in
+    let a = then-only (behind atWord t) _ e in
+    let x = then-only (readWhole (a .0)) _ (a .2) in
+    let b = then-only (behind (9 ∷ []) (x .0 .rest)) _ (x .2) in
+    let y = then-only (readWhole (b .0)) _ (b .2) in
+    let z = then-only (behind (10 ∷ []) (y .0 .rest)) _ (y .2) in
     let to-x = behind-end (word-end atWord t (a .1)) (whole-end (a .0) (x .1)) in
     let to-y = behind-end (behind-end to-x (word-end (9 ∷ []) (x .0 .rest) (b .1))) (whole-end (b .0) (y .1)) in
     end-same (behind-end to-y (word-end (10 ∷ []) (y .0 .rest) (z .1))) (ap (λ (q : Read Place). q .rest) (some-is (z .2)))

@@ -1,4 +1,5 @@
 pub mod ReadableNumbers
+pub mod Steps
 pub mod ReadableLines
 pub mod Readable
 pub mod Ending

@@ -16,7 +16,8 @@ use Rattle.job_text.specs.Drawing.{Place, Drawing, sizeWord, outerWord, 
 use Rattle.job_text.specs.Reading.{andThen, Read, read, readAt, before, readLoop, readHoles, readSize, readJob}
 use Rattle.job_text.specs.Readable.{Within, ReadableTexts}
 use Rattle.job_text.proofs.ReadableNumbers.{field-at, after-at, field-split, plain-digits, natural-back, natural-only}
-use Rattle.job_text.proofs.ReadableLines.{then-only, then-some, some-is, behind-back, behind-only, Fits, at-read, at-was}
+use Rattle.job_text.proofs.Steps.{then-only, then-some, some-is}
+use Rattle.job_text.proofs.ReadableLines.{behind-back, behind-only, Fits, at-read, at-was}
 
 -- ---- loops
 
@@ -145,8 +146,8 @@ holes-was (suc k) t hs e = go (λ (r : List ℕ) (gs : List (List Place)) (q : r
         let z = empty t (eqb-true (length t) 0 p) in
         rw (← some-is e) (z ∙ sym holes-none, λ (l : List Place) (q : Place) (m : List·Memᴰ l []) (o : List·Memᴰ q l). absurd (List·Memᴰ·not-nil m))
     go rest false p e =
-        let a = then-only (behind holeWord t) _ hs e in
-        let b = then-only (readHoles k (readLoop (length (a .0)) (a .0) .rest)) _ hs (a .2) in
+        let a = then-only (behind holeWord t) _ e in
+        let b = then-only (readHoles k (readLoop (length (a .0)) (a .0) .rest)) _ (a .2) in
         more (a .0) (b .0) (behind-only holeWord t (a .0) (a .1)) (rest (readLoop (length (a .0)) (a .0) .rest) (b .0) (b .1)) (some-is (b .2))
 
 -- ---- the size
@@ -177,7 +178,7 @@ size-from t n r w e = go (eqb n 0) refl e
 size-was : (t : List ℕ) (r : Read ℕ) → readSize t ≡ some r → (t ≡ decimalText (r .value) ++ r .rest) × (1 ≤ r .value) × (r .value ≤ sizeMost)
 unfolding readSize
 size-was t r e =
-    let h = then-only (naturalOf sizeMost (field t)) _ r e in
+    let h = then-only (naturalOf sizeMost (field t)) _ e in
     size-from t (h .0) r (h .1) (h .2)
 
 -- ---- the whole text
@@ -223,10 +224,10 @@ only t d e = go (ltb 65536 (length t)) refl e
         → Within d × (jobText d ≡ t)
     go true p e = absurd (Option·none-ne-some d e)
     go false p e =
-        let a = then-only (behind sizeWord t) _ d e in
-        let s = then-only (readSize (a .0)) _ d (a .2) in
-        let c = then-only (behind outerWord (s .0 .rest)) _ d (s .2) in
-        let h = then-only (readHoles (suc (length (readLoop (length (c .0)) (c .0) .rest))) (readLoop (length (c .0)) (c .0) .rest)) _ d (c .2) in
+        let a = then-only (behind sizeWord t) _ e in
+        let s = then-only (readSize (a .0)) _ (a .2) in
+        let c = then-only (behind outerWord (s .0 .rest)) _ (s .2) in
+        let h = then-only (readHoles (suc (length (readLoop (length (c .0)) (c .0) .rest))) (readLoop (length (c .0)) (c .0) .rest)) _ (c .2) in
         only-from t (a .0) (c .0) (s .0) (readLoop (length (c .0)) (c .0)) (h .0) d (ltb-false 65536 (length t) p) (behind-only sizeWord t (a .0) (a .1))
         (size-was (a .0) (s .0) (s .1)) (behind-only outerWord (s .0 .rest) (c .0) (c .1)) (loop-was (length (c .0)) (c .0))
         (holes-was (suc (length (readLoop (length (c .0)) (c .0) .rest))) (readLoop (length (c .0)) (c .0) .rest) (h .0) (h .1)) (some-is (h .2))

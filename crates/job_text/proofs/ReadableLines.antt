@@ -2,7 +2,7 @@
 use mathlib.Core.Path.{_≡_, refl, sym, _∙_, ap}
 use mathlib.Core.Bool.{Bool, true, false, cond, _||_}
 use mathlib.Core.List.{List, [], _∷_, _++_, map, append-assoc, append-nil, List·Memᴰ, List·Memᴰ·cases-cons, List·Memᴰ·not-nil}
-use mathlib.Core.Option.{Option, none, some, Option·none-ne-some, Option·some-injective, Option·elim}
+use mathlib.Core.Option.{none, some, Option·none-ne-some}
 use mathlib.Core.Logic.{⊎-elim}
 use Prim.Native.Nat.{ℕ, zero, suc, _+_, _≤_, _<_, _^_}
 use native.Mathlib.Omega.{arith}
@@ -14,20 +14,10 @@ use Rattle.state.specs.State.{joined}
 use Rattle.text.specs.Decimal.{decimalText, wholeText, wholeOf, naturalOf}
 use Rattle.text.specs.Fields.{endsField, field, afterField, behind}
 use Rattle.job_text.specs.Drawing.{Place, Drawing, atWord, holeWord, atText, loopText, holeText, coordinateMost, sizeMost}
-use Rattle.job_text.specs.Reading.{andThen, Read, read, readWhole, readAt, before, readLoop, readHoles, readSize}
+use Rattle.job_text.specs.Reading.{Read, read, readWhole, readAt, before, readLoop, readHoles, readSize}
 use Rattle.job_text.specs.Readable.{magnitude}
+use Rattle.job_text.proofs.Steps.{then-only, then-some, some-is}
 use Rattle.job_text.proofs.ReadableNumbers.{plain, plain-whole, plain-digits, field-at, after-at, field-split, whole-back, whole-only, natural-back, natural-only}
-
--- ---- one thing after another
-
-pub then-only : {A B : Type 0} (o : Option A) (f : A → Option B) (y : B) → andThen o f ≡ some y → (x : A) × (o ≡ some x) × (f x ≡ some y)
-unfolding andThen
-then-only none f y e = absurd (Option·none-ne-some y e)
-then-only (some x) f y e = (x, refl, e)
-
-pub then-some : {A B : Type 0} {o : Option A} {x : A} (f : A → Option B) → o ≡ some x → andThen o f ≡ f x
-unfolding andThen
-then-some f e = rw e
 
 -- ---- words
 
@@ -60,9 +50,6 @@ module _ (z : ℤ) (fits : magnitude z ≤ coordinateMost) (e : ℕ) (t : List �
       let w : wholeOf coordinateMost (field (wholeText z ++ (e ∷ t))) ≡ some z = rw f (whole-back coordinateMost z fits (omega arith)) in
       then-some (λ (n : ℤ). some (read n (afterField (wholeText z ++ (e ∷ t))))) w ∙ rw a
 
-pub some-is : {A : Type 0} {x y : A} → some x ≡ some y → x ≡ y
-some-is {A} {x} {y} e = Option·some-injective x y e
-
 whole-from : (t : List ℕ) (n : ℤ) (r : Read ℤ) → wholeOf coordinateMost (field t) ≡ some n → read n (afterField t) ≡ r
     → (t ≡ wholeText (r .value) ++ r .rest) × (magnitude (r .value) ≤ coordinateMost)
 whole-from t n r w e =
@@ -72,7 +59,7 @@ whole-from t n r w e =
 pub whole-was : (t : List ℕ) (r : Read ℤ) → readWhole t ≡ some r → (t ≡ wholeText (r .value) ++ r .rest) × (magnitude (r .value) ≤ coordinateMost)
 unfolding readWhole
 whole-was t r e =
-    let h = then-only (wholeOf coordinateMost (field t)) (λ (n : ℤ). some (read n (afterField t))) r e in
+    let h = then-only (wholeOf coordinateMost (field t)) (λ (n : ℤ). some (read n (afterField t))) e in
     whole-from t (h .0) r (h .1) (some-is (h .2))
 
 -- ---- `at` lines
@@ -102,11 +89,11 @@ at-from t t1 t2 t3 x y r a b c d f e = rw (← e, at-flat, a, b, c, d, f)
 pub at-was : (t : List ℕ) (r : Read Place) → readAt t ≡ some r → (t ≡ atText (r .value) ++ r .rest) × Fits (r .value)
 unfolding readAt
 at-was t r e =
-    let a = then-only (behind atWord t) _ r e in
-    let b = then-only (readWhole (a .0)) _ r (a .2) in
-    let c = then-only (behind (9 ∷ []) (b .0 .rest)) _ r (b .2) in
-    let d = then-only (readWhole (c .0)) _ r (c .2) in
-    let f = then-only (behind (10 ∷ []) (d .0 .rest)) _ r (d .2) in
+    let a = then-only (behind atWord t) _ e in
+    let b = then-only (readWhole (a .0)) _ (a .2) in
+    let c = then-only (behind (9 ∷ []) (b .0 .rest)) _ (b .2) in
+    let d = then-only (readWhole (c .0)) _ (c .2) in
+    let f = then-only (behind (10 ∷ []) (d .0 .rest)) _ (d .2) in
     let x = whole-was (a .0) (b .0) (b .1) in
     let y = whole-was (c .0) (d .0) (d .1) in
     let v = some-is (f .2) in (

@@ -57,6 +57,10 @@ next-cases n i l = go (eqb (i + 1) n) refl
     go true e = inl (eqb-true (i + 1) n e, rw e)
     go false e = inr (omega (arith, eqb-false (i + 1) n e), rw e)
 
+-- the place after i, where it is not the first again
+pub next-inner : (n i : ℕ) {k : ℕ} → i < n → k ≡ next n i → i + 1 < n → k ≡ i + 1
+next-inner n i l e m = elim (next-cases n i l) [ inl h ↦ absurd (omega (arith, h .0)) | inr h ↦ e ∙ h .1 ]
+
 pub next-below : (n i : ℕ) → i < n → next n i < n
 next-below n i l = elim (next-cases n i l) [ inl h ↦ omega (arith, h .0, h .1) | inr h ↦ omega (arith, h .0, h .1) ]
 

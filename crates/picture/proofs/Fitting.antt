@@ -15,9 +15,10 @@ use Rattle.input.specs.Limit.{cornerLimit}
 use Rattle.rules.specs.Fan.{Box}
 use Rattle.shapes.specs.Shapes.{outlineText, loopsText, tilesText, frontsText, nodesText, worst}
 use Rattle.shapes.proofs.Lengths.{total, joined-total, path-length, loops-length, tiles-length, fronts-length, nodes-length}
-use Rattle.captions.specs.Views.{viewText, sizeText, headText, middleText, underText, captionText, closing}
+use Rattle.frames.specs.Views.{viewText, sizeText, headText, middleText, underText, captionText, closing}
 use Rattle.captions.specs.Captions.{doneCaption, refusedCaption}
-use Rattle.captions.proofs.Lengths.{frame-length, place-length, closing-length, done-length, refused-length}
+use Rattle.frames.proofs.Lengths.{frame-length, place-length, closing-length}
+use Rattle.captions.proofs.Lengths.{done-length, refused-length}
 use Rattle.picture.specs.Plates.{dotsText, shapesText, framedText, pavedText, Few}
 use Rattle.picture.specs.Picture.{pictureRoom}
 

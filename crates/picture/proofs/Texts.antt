@@ -27,7 +27,8 @@ use Rattle.job_text.proofs.Storing.{length-coordinates}
 use Rattle.job_text.proofs.Callers.{JobIs, job-is, too-many-is, unreadable-is}
 use Rattle.captions.specs.Captions.{wordsText}
 use Rattle.picture.specs.Plates.{answerPicture, Few}
-use Rattle.picture.specs.Picture.{lent, jobPicture, drawText, pictureRoom, drawnIn, drawCall}
+use Rattle.plate_text.specs.PaveText.{lent}
+use Rattle.picture.specs.Picture.{jobPicture, drawText, pictureRoom, drawnIn, drawCall}
 
 -- ---- a job
 

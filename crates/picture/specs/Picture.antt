@@ -5,19 +5,15 @@ use mathlib.Core.List.{List}
 use mathlib.Core.Option.{Option, Option·elim}
 use lib.Dec.{eqb, ltb}
 use lib.ListN as lists
-use Rattle.state.specs.State.{Lengths, padded}
-use Rattle.state.specs.Call.{lengthsOf}
+use Rattle.state.specs.State.{padded}
 use Rattle.input.specs.Job.{Job}
 use Rattle.rules.specs.Calls.{jobCall}
 use Rattle.job_text.specs.Drawing.{Drawing, jobOf}
 use Rattle.job_text.specs.Reading.{readJob}
 use Rattle.job_text.specs.Answers.{tooMany}
+use Rattle.plate_text.specs.PaveText.{lent}
 use Rattle.captions.specs.Captions.{wordsText}
 use Rattle.picture.specs.Plates.{answerPicture}
-
--- document 01's result buffers
-abbrev pub lent : Lengths
-lent = lengthsOf 8192 16384 2048 16
 
 -- words alone where there is no point: the outer loop then has fewer than three
 unfoldable pub jobPicture : Job → List ℕ

@@ -15,7 +15,7 @@ use Rattle.input.specs.Job.{Job}
 use Rattle.input.specs.Limit.{cornerLimit}
 use Rattle.rules.specs.Fan.{Box, box}
 use Rattle.shapes.specs.Shapes.{outlineText, tilesText, frontsText, nodesText, worst}
-use Rattle.captions.specs.Views.{margin, viewText, sizeText, headText, middleText, underText, captionText, closing}
+use Rattle.frames.specs.Views.{margin, viewText, sizeText, headText, middleText, underText, captionText, closing}
 use Rattle.captions.specs.Captions.{doneCaption, refusedCaption}
 
 -- all nodes (n), and the sampled ones (s): those that no row laid, as many as points less laid

@@ -21,7 +21,6 @@ use Rattle.input.specs.Job.{Job, job, wrongShape, inputNumber, loopLimit, pairL
 use Rattle.sampling.specs.Sample.{onJob}
 use Rattle.rules.specs.Calls.{jobCall, paved}
 use Rattle.rules.proofs.Demands as demands
-use Rattle.text.specs.Putting.{Put}
 use Rattle.answer_text.specs.AnswerText.{answerText, refusedText}
 use Rattle.answer_text.specs.Fits.{SoundAnswer}
 use Rattle.answer_text.proofs.Pieces.{sound-answer}
@@ -64,6 +63,3 @@ module _ (x : Left) (coords : List Float) (loops : List ℕ) (h : Float) (o : Op
 
 pub long : (p : List Float) (q n l : List ℕ) (c : Counts) → length p ≡ 8192 → length q ≡ 16384 → length n ≡ 2048 → length l ≡ 16 → lengths (held p q n l c) ≡ lent
 long p q n l c e f g h = rw (e, f, g, h)
-
-pub put-same : {before after text other : List ℕ} {at next : ℕ} → text ≡ other → Put before at text after next → Put before at other after next
-put-same e w = rw (← e) w

@@ -1,4 +1,2 @@
-pub mod Quads
 pub mod Fitting
-pub mod Writing
 pub mod Stepping

@@ -27,7 +27,7 @@ use Rattle.rules.specs.RowCall.{rowAt}
 use Rattle.row_checks.specs.declared.Tried.{Tried}
 use Rattle.row_checks.specs.declared.Tried.the-variants.{Stands, Refused}
 use Rattle.row_checks.specs.Candidate.{tried}
-use Rattle.row.specs.Room.{Room}
+use Rattle.row_laying.specs.Room.{Room}
 
 -- a row whose number is 0 has room
 no-test : (a b c : Bool) → firstOf (test 22 a ∷ test 21 (b || c) ∷ []) ≡ 0 → (b ≡ false) × (c ≡ false)

@@ -17,7 +17,7 @@ use Rattle.rules.specs.declared.Projection.{Projection}
 use Rattle.rules.specs.declared.Projection.the-variants.{At, Nothing}
 use Rattle.rules.specs.Projecting.{project, projectionNumber, projectionValues}
 use Rattle.rules.specs.Checks.{every, projection, newPoints}
-use Rattle.row_checks.proofs.Sides.{next-inner}
+use Rattle.pairs.proofs.Sides.{next-inner}
 
 prev-after : (n i : ℕ) → prev n (i + 1) ≡ i
 prev-after n i =

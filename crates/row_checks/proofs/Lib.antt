@@ -1,8 +1,7 @@
 pub mod Sides
 pub mod Literals
 pub mod Projects
-pub mod Right
-pub mod Searching
+pub mod FarClear
 pub mod Building
 pub mod Agreeing
 pub mod Standing

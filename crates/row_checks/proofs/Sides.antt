@@ -1,16 +1,13 @@
 -- A side and a quad at place i, as the loops read them.
-use mathlib.Core.Path.{_≡_, _∙_}
+use mathlib.Core.Path.{_≡_}
 use mathlib.Core.Bool.{Bool, not}
 use mathlib.Core.List.{List}
-use mathlib.Core.Logic.{inl, inr}
-use Prim.Native.Nat.{ℕ, _+_, _<_}
-use native.Mathlib.Omega.{arith}
+use Prim.Native.Nat.{ℕ}
 use lib.Ieee.{Float, lt}
 use lib.ListN.{getD}
 use Rattle.geometry.specs.declared.Point.{Point}
 use Rattle.geometry.specs.Rings.{next, pointAt}
 use Rattle.geometry.specs.Measures.{sideLength, cornersPass}
-use Rattle.pairs.proofs.Sides.{next-cases}
 
 -- the two tests that a turn makes
 abbrev pub longEnough : Float → List Float → ℕ → ℕ → Bool
@@ -18,10 +15,6 @@ longEnough least row n i = not (lt (sideLength (pointAt row i) (pointAt row (nex
 
 abbrev pub cornersGood : Float → List Float → List ℕ → List Float → ℕ → ℕ → Bool
 cornersGood limit points old row n i = cornersPass limit (pointAt points (getD old i 0)) (pointAt points (getD old (next n i) 0)) (pointAt row (next n i)) (pointAt row i)
-
--- the place after i, where it is not the first again
-pub next-inner : (n i : ℕ) {k : ℕ} → i < n → k ≡ next n i → i + 1 < n → k ≡ i + 1
-next-inner n i l e m = elim (next-cases n i l) [ inl h ↦ absurd (omega (arith, h .0)) | inr h ↦ e ∙ h .1 ]
 
 pub side-of : (row : List Float) (n i : ℕ) {j : ℕ} {a b : Point} {d : Float} → d ≡ sideLength a b → a ≡ pointAt row i → b ≡ pointAt row j → j ≡ next n i
     → d ≡ sideLength (pointAt row i) (pointAt row (next n i))

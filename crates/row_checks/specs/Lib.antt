@@ -1,2 +1,2 @@
 pub mod Candidate
-pub mod Right
+pub mod Far

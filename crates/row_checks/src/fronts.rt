@@ -7,10 +7,12 @@ ghost use Rattle.geometry.specs.Domain.{sumOf};
 ghost use Rattle.state.specs.State.{cut};
 ghost use Rattle.rules.specs.Checks.{allClearOf, allClearOfFronts};
 use crate::checks::all_clear_of;
+use crate::far::all_far;
+use crate::far::is_bound;
 use geometry::wide;
 use state::nodes_of;
 
-// The front is the row's own, or no new point is nearer than `least` to it.
+// The front is the row's own, or no new point is nearer than `least` to it. A front that is far by squares needs no measuring.
 fn own_or_clear(own: bool, points: &[f64], nodes: &[u16], row: &[f64], n: usize, least: f64) -> bool
     requires { ⌜ n * 2 ≤ length (now row) ⌝ }
     requires { ⌜ ((i : ℕ) → i < length (now nodes) → getD (now nodes) i 0 * 2 + 1 < length (now points)) ⌝ }
@@ -18,6 +20,12 @@ fn own_or_clear(own: bool, points: &[f64], nodes: &[u16], row: &[f64], n: usize,
 {
     if own {
         return true;
+    }
+    let bound = least * least * 1.000001;
+    if is_bound(bound, least) {
+        if all_far(points, nodes, row, n, bound) {
+            return true;
+        }
     }
     all_clear_of(points, nodes, row, n, least)
 }

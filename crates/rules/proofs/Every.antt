@@ -1,6 +1,6 @@
 -- A test made at each place, as a loop makes it that stops at the first place that fails; and what a test on a computed value says of the definition's.
 use mathlib.Core.Path.{_≡_, refl, sym}
-use mathlib.Core.Bool.{Bool, true, false, not}
+use mathlib.Core.Bool.{Bool, true, false, not, _&&_}
 use mathlib.Core.Logic.{inl, inr}
 use Prim.Native.Nat.{ℕ, zero, suc, _+_, _-_, _<_}
 use native.Mathlib.Nat.{add-zero, add-suc, eq-or-lt-of-le, le-of-suc-le-suc}
@@ -21,6 +21,18 @@ every-at p (suc n) i e l =
       | inr m ↦ every-at p n i (and-left (every p n) (p n) e) m
     ]
 
+-- and what holds at each of them holds at each place
+pub every-of : (p : ℕ → Bool) (n : ℕ) → ((i : ℕ) → i < n → p i ≡ true) → every p n ≡ true
+unfolding every
+every-of p zero h = refl
+every-of p (suc n) h = rw (every-of p n (λ i l. h i (omega arith)), h n (omega arith))
+
+-- the same test by another name
+pub every-same : (p q : ℕ → Bool) → ((i : ℕ) → p i ≡ q i) → (n : ℕ) → every p n ≡ every q n
+unfolding every
+every-same p q h zero = refl
+every-same p q h (suc n) = rw (every-same p q h n, h n)
+
 module _ (p : ℕ → Bool) where
   pub every-none : every p 0 ≡ true
   unfolding every
@@ -29,6 +41,11 @@ module _ (p : ℕ → Bool) where
   pub every-more : (i : ℕ) → every p i ≡ true → p i ≡ true → every p (i + 1) ≡ true
   unfolding every
   every-more i h g = rw (add-one, h, g)
+
+  -- a test made at each place, however those before came out
+  pub every-next : (i : ℕ) {b t : Bool} → b ≡ every p i → t ≡ p i → (b && t) ≡ every p (i + 1)
+  unfolding every
+  every-next i h g = rw (add-one, h, g)
 
   fails-after : (i d : ℕ) → p i ≡ false → every p (suc (i + d)) ≡ false
   unfolding every

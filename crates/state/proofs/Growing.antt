@@ -26,7 +26,8 @@ module _ {A : Type 0} where
       let e : suc (n + s) ≡ n + suc s = omega arith in
       rw e (drop-before ys (set xs (n + s) y) n (suc s)) ∙ ap (λ t. sets t (suc s) ys) (drop-set-add n xs s y)
 
-  drop-behind : (ys xs : List A) (n s : ℕ) → s + length ys ≤ n → drop n (sets xs s ys) ≡ drop n xs
+  -- what is behind the places that were written
+  pub drop-behind : (ys xs : List A) (n s : ℕ) → s + length ys ≤ n → drop n (sets xs s ys) ≡ drop n xs
   drop-behind [] xs n s h = refl
   drop-behind (y ∷ ys) xs n s h = drop-behind ys (set xs s y) n (suc s) (omega arith) ∙ drop-set-lt n xs s y (omega arith)
 

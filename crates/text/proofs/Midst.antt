@@ -28,6 +28,10 @@ byte-put d k v = record { bytes = refl; place = refl }
 pub last-first : (d xs : List ℕ) (a j v : ℕ) → j ≡ a + length xs → sets (set d j v) a xs ≡ sets d a (xs ++ (v ∷ []))
 last-first d xs a j v e = sym (set-behind xs d a j v (omega arith)) ∙ rw e (sym (sets-append xs (v ∷ []) d a))
 
+-- the same text by another name
+pub put-same : {before after text other : List ℕ} {at next : ℕ} → text ≡ other → Put before at text after next → Put before at other after next
+put-same e w = rw (← e) w
+
 -- ---- a text of which `rest` is left: put from `next` on, it gives the whole
 
 pub record Midst (before : List ℕ) (at : ℕ) (text after : List ℕ) (next : ℕ) (rest : List ℕ) : Type 0 where

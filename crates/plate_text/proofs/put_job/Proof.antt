@@ -4,7 +4,8 @@ use Rattle.state.specs.State.{noCounts}
 use Rattle.state.specs.Call.{held, left, answerCounts}
 use Rattle.text.specs.Putting.{Put}
 use Rattle.answer_text.specs.AnswerText.{answerText}
-use Rattle.plate_text.proofs.Answering.{answer-is, answer-sound, long, put-same}
+use Rattle.text.proofs.Midst.{put-same}
+use Rattle.plate_text.proofs.Answering.{answer-is, answer-sound, long}
 use Rattle.plate_text.proofs.put_job.Statement.{statement}
 use Rattle.plate_text.proofs.put_job.Tie as tie
 

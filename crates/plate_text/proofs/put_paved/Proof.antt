@@ -4,7 +4,7 @@ use native.Mathlib.Omega.{arith}
 use lib.ListN.{length}
 use lib.Seq.{length-take-le}
 use borrow.Author.Needs.{needs}
-use Rattle.plate_text.proofs.Answering.{put-same}
+use Rattle.text.proofs.Midst.{put-same}
 use Rattle.plate_text.proofs.Texts.{no-job, many-job, found}
 use Rattle.plate_text.proofs.put_paved.Statement.{statement}
 use Rattle.plate_text.proofs.put_paved.Tie as tie

@@ -1,7 +1,7 @@
 -- `captions::sentences::put_input_sentence` meets its contract, number by number.
 use Rattle.captions.specs.Captions.{inputSentence}
 use Rattle.shapes.proofs.Numbers.{nothing}
-use Rattle.captions.proofs.Measures.{input-none}
+use Rattle.captions.proofs.Tests.{input-none}
 use borrow.Author.Needs.{needs}
 use Rattle.captions.proofs.sentences.put_input_sentence.Statement.{statement}
 use Rattle.captions.proofs.sentences.put_input_sentence.Tie as tie

@@ -1,7 +1,7 @@
 -- `captions::sentences::put_loop_sentence` meets its contract, number by number.
 use Rattle.captions.specs.Captions.{loopSentence}
 use Rattle.shapes.proofs.Numbers.{nothing}
-use Rattle.captions.proofs.Measures.{loop-none}
+use Rattle.captions.proofs.Tests.{loop-none}
 use borrow.Author.Needs.{needs}
 use Rattle.captions.proofs.sentences.put_loop_sentence.Statement.{statement}
 use Rattle.captions.proofs.sentences.put_loop_sentence.Tie as tie

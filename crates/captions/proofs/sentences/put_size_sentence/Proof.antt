@@ -1,7 +1,7 @@
 -- `captions::sentences::put_size_sentence` meets its contract, number by number.
 use Rattle.captions.specs.Captions.{sizeSentence}
 use Rattle.shapes.proofs.Numbers.{nothing}
-use Rattle.captions.proofs.Measures.{size-none}
+use Rattle.captions.proofs.Tests.{size-none}
 use borrow.Author.Needs.{needs}
 use Rattle.captions.proofs.sentences.put_size_sentence.Statement.{statement}
 use Rattle.captions.proofs.sentences.put_size_sentence.Tie as tie

@@ -1,6 +1,6 @@
 -- `captions::words::put_corner` meets its contract.
 use Rattle.shapes.proofs.Numbers.{nothing}
-use Rattle.captions.proofs.Measures.{corner-none, corner-some}
+use Rattle.captions.proofs.Tests.{corner-none, corner-some}
 use borrow.Author.Needs.{needs}
 use Rattle.captions.proofs.words.put_corner.Statement.{statement}
 use Rattle.captions.proofs.words.put_corner.Tie as tie

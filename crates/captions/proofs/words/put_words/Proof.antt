@@ -1,8 +1,9 @@
 -- `captions::words::put_words` meets its contract.
 use mathlib.Core.Path.{refl}
 use mathlib.Core.List.{[], _∷_}
-use Rattle.captions.specs.Views.{closing}
-use Rattle.captions.specs.Captions.{plainHead, plainCaption, refusedCaption, wordsText}
+use Rattle.frames.specs.Views.{closing}
+use Rattle.frames.specs.Views.{plainHead, plainCaption}
+use Rattle.captions.specs.Captions.{refusedCaption, wordsText}
 use Rattle.shapes.proofs.Pieces.{Going, start, fits, step, done}
 use borrow.Author.Needs.{needs}
 use Rattle.captions.proofs.words.put_words.Statement.{statement}

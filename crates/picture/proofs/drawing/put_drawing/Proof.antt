@@ -3,7 +3,7 @@ use mathlib.Core.Path.{_≡_, sym}
 use lib.ListN.{length}
 use lib.Seq.{length-take-le}
 use Rattle.captions.proofs.Lengths.{words-length}
-use Rattle.picture.proofs.Plating.{put-same}
+use Rattle.text.proofs.Midst.{put-same}
 use Rattle.picture.proofs.Texts.{found, no-job, many-job, job-few, job-drawn}
 use borrow.Author.Needs.{needs}
 use native.Mathlib.Omega.{arith}

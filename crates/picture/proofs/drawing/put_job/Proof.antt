@@ -7,7 +7,8 @@ use Rattle.input.specs.Defaults.{defaults}
 use Rattle.text.specs.Putting.{Put}
 use Rattle.captions.proofs.Lengths.{words-length}
 use Rattle.picture.specs.Plates.{answerPicture}
-use Rattle.picture.proofs.Plating.{put-same, answer-is, answer-sound, long}
+use Rattle.text.proofs.Midst.{put-same}
+use Rattle.plate_text.proofs.Answering.{answer-is, answer-sound, long}
 use Rattle.picture.proofs.Texts.{no-point, some-point}
 use borrow.Author.Needs.{needs}
 use native.Mathlib.Omega.{arith}

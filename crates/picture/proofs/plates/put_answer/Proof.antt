@@ -2,7 +2,8 @@
 use Rattle.input.specs.Job.{job}
 use Rattle.input.specs.Defaults.{defaults}
 use Rattle.answer_text.proofs.Pieces.{done-sound}
-use Rattle.picture.proofs.Plating.{put-same, done-picture, refused-picture}
+use Rattle.text.proofs.Midst.{put-same}
+use Rattle.picture.proofs.Plating.{done-picture, refused-picture}
 use borrow.Author.Needs.{needs}
 use Rattle.picture.proofs.plates.put_answer.Statement.{statement}
 use Rattle.picture.proofs.plates.put_answer.Tie as tie

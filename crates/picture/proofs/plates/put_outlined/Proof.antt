@@ -3,7 +3,7 @@ use mathlib.Core.Path.{refl}
 use mathlib.Core.List.{[], _∷_}
 use Rattle.fan_search.specs.Values.{boxed}
 use Rattle.shapes.specs.Shapes.{outlineText}
-use Rattle.captions.specs.Views.{viewText, sizeText, headText, middleText, underText, captionText, closing}
+use Rattle.frames.specs.Views.{viewText, sizeText, headText, middleText, underText, captionText, closing}
 use Rattle.captions.specs.Captions.{refusedCaption}
 use Rattle.picture.specs.Plates.{framedText}
 use Rattle.shapes.proofs.Pieces.{Going, start, fits, step, done}

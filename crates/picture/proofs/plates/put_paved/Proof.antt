@@ -6,7 +6,7 @@ use lib.Ieee.{inf}
 use Rattle.state.specs.State.{quadsOf, cut}
 use Rattle.fan_search.specs.Values.{boxed}
 use Rattle.shapes.specs.Shapes.{worst}
-use Rattle.captions.specs.Views.{viewText, sizeText, headText, middleText, underText, captionText, closing}
+use Rattle.frames.specs.Views.{viewText, sizeText, headText, middleText, underText, captionText, closing}
 use Rattle.captions.specs.Captions.{doneCaption}
 use Rattle.picture.specs.Plates.{shapesText, framedText, pavedText}
 use Rattle.shapes.proofs.Pieces.{Going, start, fits, step, done}

@@ -6,7 +6,8 @@ use Rattle.state.specs.Call.{held}
 use Rattle.state.specs.Sound.{Sound}
 use Rattle.fan_search.specs.Values.{boxed}
 use Rattle.picture.proofs.Fitting.{paved-fits}
-use Rattle.picture.proofs.Plating.{put-same, plated-is}
+use Rattle.text.proofs.Midst.{put-same}
+use Rattle.picture.proofs.Plating.{plated-is}
 use borrow.Author.Needs.{needs}
 use native.Mathlib.Omega.{arith}
 use Rattle.picture.proofs.plates.put_plate.Statement.{statement}

@@ -1,7 +1,8 @@
 -- `picture::plates::put_refusal` meets its contract.
 use Rattle.fan_search.specs.Values.{boxed}
 use Rattle.picture.proofs.Fitting.{outlined-fits}
-use Rattle.picture.proofs.Plating.{put-same, outlined-is}
+use Rattle.text.proofs.Midst.{put-same}
+use Rattle.picture.proofs.Plating.{outlined-is}
 use borrow.Author.Needs.{needs}
 use native.Mathlib.Omega.{arith}
 use Rattle.picture.proofs.plates.put_refusal.Statement.{statement}

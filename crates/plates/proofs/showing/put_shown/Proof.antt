@@ -5,7 +5,8 @@ use Rattle.state.specs.State.{Held, lengths}
 use Rattle.state.specs.Call.{held, lengthsOf}
 use Rattle.state.specs.Given.{wrongState}
 use Rattle.state.proofs.Sounding as sounding
-use Rattle.plate_text.proofs.Answering.{long, put-same}
+use Rattle.text.proofs.Midst.{put-same}
+use Rattle.plate_text.proofs.Answering.{long}
 use Rattle.plates.proofs.Stated.{unshown, stands}
 use Rattle.plates.proofs.showing.put_shown.Statement.{statement}
 use Rattle.plates.proofs.showing.put_shown.Tie as tie

@@ -12,7 +12,8 @@ use Rattle.geometry.specs.Measures.{sideLength}
 use Rattle.geometry.proofs.Flip.{length-flip}
 use Rattle.state.proofs.Basics.{and-false}
 use Rattle.rules.proofs.Every.{every-none, every-more, every-stops, every-end, too-near, far-enough}
-use Rattle.row_checks.proofs.Sides.{longEnough, cornersGood, next-inner, side-of, corners-of}
+use Rattle.pairs.proofs.Sides.{next-inner}
+use Rattle.row_checks.proofs.Sides.{longEnough, cornersGood, side-of, corners-of}
 use Rattle.row_checks.proofs.quads.all_quads_stand.Statement.{statement}
 use Rattle.row_checks.proofs.quads.all_quads_stand.Tie as tie
 
