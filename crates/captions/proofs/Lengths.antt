@@ -14,7 +14,7 @@ use Rattle.shapes.specs.Places.{acrossText}
 use Rattle.shapes.proofs.Lengths.{joined-total, chosen-length, across-length}
 use Rattle.frames.specs.Views.{closing, plainHead, plainCaption}
 use Rattle.frames.proofs.Lengths.{closing-length, plain-head-length, plain-caption-length}
-use Rattle.captions.specs.Captions.{countText, sizesText, stepsText, leastText, cornerText, doneCaption, inputSentence, loopSentence, sizeSentence, refusedCaption, wordsText}
+use Rattle.captions.specs.Captions.{countText, sizesText, stepsText, leastText, cornerText, doneCaption, oneOf, inputSentence, loopSentence, sizeSentence, refusedCaption, wordsText}
 
 -- ---- words
 
@@ -65,26 +65,18 @@ done-length c x =
     let d = corner-length (c .quads) x in
     omega arith
 
-input-length : (n : ℕ) → length (inputSentence n) ≤ 80
-unfolding inputSentence
-input-length n = chosen-length (eqb n 1) _ _ 80 (omega arith) (chosen-length (eqb n 4) _ _ 80 (omega arith) (chosen-length (eqb n 6) _ [] 80 (omega arith) (omega arith)))
-
-loop-length : (n : ℕ) → length (loopSentence n) ≤ 80
-unfolding loopSentence
-loop-length n = chosen-length (eqb n 7) _ _ 80 (omega arith) (chosen-length (eqb n 8) _ _ 80 (omega arith) (chosen-length (eqb n 9) _ [] 80 (omega arith) (omega arith)))
-
-size-words : (n : ℕ) → length (sizeSentence n) ≤ 80
-unfolding sizeSentence
-size-words n = chosen-length (eqb n 10) _ _ 80 (omega arith) (chosen-length (eqb n 11) _ _ 80 (omega arith) (chosen-length (eqb n 21) _ [] 80 (omega arith) (omega arith)))
+sentence-length : (n i : ℕ) (a : List ℕ) (j : ℕ) (b : List ℕ) (k : ℕ) (c : List ℕ) → length a ≤ 80 → length b ≤ 80 → length c ≤ 80 → length (oneOf n i a j b k c) ≤ 80
+unfolding oneOf
+sentence-length n i a j b k c f g h = chosen-length (eqb n i) a _ 80 f (chosen-length (eqb n j) b _ 80 g (chosen-length (eqb n k) c [] 80 h (omega arith)))
 
 pub refused-length : (n : ℕ) → length (refusedCaption n) ≤ 270
 unfolding refusedCaption
 refused-length n =
     let t = joined-total (ascii "refused " ∷ decimalText n ∷ ascii ": " ∷ inputSentence n ∷ loopSentence n ∷ sizeSentence n ∷ []) in
     let d = length-at-most 20 n in
-    let a = input-length n in
-    let b = loop-length n in
-    let c = size-words n in
+    let a : length (inputSentence n) ≤ 80 = sentence-length n 1 _ 4 _ 6 _ (omega arith) (omega arith) (omega arith) in
+    let b : length (loopSentence n) ≤ 80 = sentence-length n 7 _ 8 _ 9 _ (omega arith) (omega arith) (omega arith) in
+    let c : length (sizeSentence n) ≤ 80 = sentence-length n 10 _ 11 _ 21 _ (omega arith) (omega arith) (omega arith) in
     omega arith
 
 -- ---- words alone

@@ -4,7 +4,7 @@ use mathlib.Core.List.{List, []}
 use Prim.Native.Nat.{ℕ}
 use borrow.Author.Tests.{eq-eqb, ne-eqb}
 use lib.Ieee.{Float}
-use Rattle.captions.specs.Captions.{leastText, cornerText, inputSentence, loopSentence, sizeSentence}
+use Rattle.captions.specs.Captions.{leastText, cornerText, oneOf}
 
 pub corner-none : (quads : ℕ) (least : Float) → quads ≡ 0 → cornerText quads least ≡ []
 unfolding cornerText
@@ -14,15 +14,19 @@ pub corner-some : (quads : ℕ) (least : Float) → (quads ≡ 0 → ⊥) → co
 unfolding cornerText
 corner-some quads least f = rw (ne-eqb quads 0 f)
 
-module _ (n : ℕ) where
-  pub input-none : (n ≡ 1 → ⊥) → (n ≡ 4 → ⊥) → (n ≡ 6 → ⊥) → inputSentence n ≡ []
-  unfolding inputSentence
-  input-none a b c = rw (ne-eqb n 1 a, ne-eqb n 4 b, ne-eqb n 6 c)
+module _ (n i j k : ℕ) (a b c : List ℕ) where
+  pub one-of-first : n ≡ i → oneOf n i a j b k c ≡ a
+  unfolding oneOf
+  one-of-first e = rw (eq-eqb n i e)
 
-  pub loop-none : (n ≡ 7 → ⊥) → (n ≡ 8 → ⊥) → (n ≡ 9 → ⊥) → loopSentence n ≡ []
-  unfolding loopSentence
-  loop-none a b c = rw (ne-eqb n 7 a, ne-eqb n 8 b, ne-eqb n 9 c)
+  pub one-of-second : (n ≡ i → ⊥) → n ≡ j → oneOf n i a j b k c ≡ b
+  unfolding oneOf
+  one-of-second f e = rw (ne-eqb n i f, eq-eqb n j e)
 
-  pub size-none : (n ≡ 10 → ⊥) → (n ≡ 11 → ⊥) → (n ≡ 21 → ⊥) → sizeSentence n ≡ []
-  unfolding sizeSentence
-  size-none a b c = rw (ne-eqb n 10 a, ne-eqb n 11 b, ne-eqb n 21 c)
+  pub one-of-third : (n ≡ i → ⊥) → (n ≡ j → ⊥) → n ≡ k → oneOf n i a j b k c ≡ c
+  unfolding oneOf
+  one-of-third f g e = rw (ne-eqb n i f, ne-eqb n j g, eq-eqb n k e)
+
+  pub one-of-none : (n ≡ i → ⊥) → (n ≡ j → ⊥) → (n ≡ k → ⊥) → oneOf n i a j b k c ≡ []
+  unfolding oneOf
+  one-of-none f g h = rw (ne-eqb n i f, ne-eqb n j g, ne-eqb n k h)

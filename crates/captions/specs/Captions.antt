@@ -45,26 +45,30 @@ doneCaption c least = joined (sizesText c ∷ stepsText c ∷ cornerText (c .qua
 
 -- ---- a refusal: its number, and a sentence for each number that a job's text can give; at most one of the three says something
 
-unfoldable pub inputSentence : ℕ → List ℕ
+-- the sentence of the number, of three
+unfoldable pub oneOf : ℕ → ℕ → List ℕ → ℕ → List ℕ → ℕ → List ℕ → List ℕ
+oneOf n i a j b k c = cond (eqb n i) a (cond (eqb n j) b (cond (eqb n k) c []))
+
+abbrev pub inputSentence : ℕ → List ℕ
 inputSentence n =
-    cond (eqb n 1) (ascii "there are more than 16 loops or 2,048 points.")
-    (cond (eqb n 4) (ascii "the outer loop has fewer than three points.")
-    (cond (eqb n 6) (ascii "the outline has no area left; is the outer loop given counter-clockwise?")
-    []))
+    oneOf n
+    1 (ascii "there are more than 16 loops or 2,048 points.")
+    4 (ascii "the outer loop has fewer than three points.")
+    6 (ascii "the outline has no area left; is the outer loop given counter-clockwise?")
 
-unfoldable pub loopSentence : ℕ → List ℕ
+abbrev pub loopSentence : ℕ → List ℕ
 loopSentence n =
-    cond (eqb n 7) (ascii "a loop has fewer than three different points.")
-    (cond (eqb n 8) (ascii "a loop got fewer than four nodes.")
-    (cond (eqb n 9) (ascii "a loop got an odd number of nodes.")
-    []))
+    oneOf n
+    7 (ascii "a loop has fewer than three different points.")
+    8 (ascii "a loop got fewer than four nodes.")
+    9 (ascii "a loop got an odd number of nodes.")
 
-unfoldable pub sizeSentence : ℕ → List ℕ
+abbrev pub sizeSentence : ℕ → List ℕ
 sizeSentence n =
-    cond (eqb n 10) (ascii "the outline needs more than 2,048 nodes at this size.")
-    (cond (eqb n 11) (ascii "the text is not that of a job.")
-    (cond (eqb n 21) (ascii "the plate needs more than 4,096 points or tiles at this size.")
-    []))
+    oneOf n
+    10 (ascii "the outline needs more than 2,048 nodes at this size.")
+    11 (ascii "the text is not that of a job.")
+    21 (ascii "the plate needs more than 4,096 points or tiles at this size.")
 
 unfoldable pub refusedCaption : ℕ → List ℕ
 refusedCaption n = joined (ascii "refused " ∷ decimalText n ∷ ascii ": " ∷ inputSentence n ∷ loopSentence n ∷ sizeSentence n ∷ [])

@@ -1,5 +1,4 @@
 // The line of words under a plate, and a picture of words alone.
-mod sentences;
 mod words;
 
 pub use words::put_done;

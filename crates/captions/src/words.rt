@@ -1,9 +1,6 @@
 // The line of words under a plate, and a picture of words alone.
 ghost use Rattle.text.specs.Putting.{Put, Room};
 ghost use Rattle.captions.specs.Captions as captions;
-use crate::sentences::put_input_sentence;
-use crate::sentences::put_loop_sentence;
-use crate::sentences::put_size_sentence;
 use frames::put_closing;
 use frames::put_plain_caption;
 use frames::put_plain_head;
@@ -69,6 +66,33 @@ pub fn put_done(out: &mut [u8], at: usize, c: Counts, least: f64) -> usize
     put_corner(out, a2, quads, least)
 }
 
+// The sentence of the number, of three; nothing where it has none of them.
+fn put_one_of(
+    out: &mut [u8],
+    at: usize,
+    n: u32,
+    i: u32,
+    a: &[u8],
+    j: u32,
+    b: &[u8],
+    k: u32,
+    c: &[u8],
+) -> usize
+    requires { ⌜ Room (now out) at (captions.oneOf n i (now a) j (now b) k (now c)) ⌝ }
+    ensures { λ r. ⌜ Put (now (out .entry)) at (captions.oneOf n i (now (a .entry)) j (now (b .entry)) k (now (c .entry))) (now (out .exit)) r ⌝ }
+{
+    if n == i {
+        return put_bytes(out, at, a);
+    }
+    if n == j {
+        return put_bytes(out, at, b);
+    }
+    if n == k {
+        return put_bytes(out, at, c);
+    }
+    at
+}
+
 // The words of a refusal.
 pub fn put_refused(out: &mut [u8], at: usize, n: u32) -> usize
     requires { ⌜ Room (now out) at (captions.refusedCaption n) ⌝ }
@@ -77,9 +101,39 @@ pub fn put_refused(out: &mut [u8], at: usize, n: u32) -> usize
     let a1 = put_bytes(out, at, b"refused ");
     let a2 = put_decimal(out, a1, n as u64);
     let a3 = put_bytes(out, a2, b": ");
-    let a4 = put_input_sentence(out, a3, n);
-    let a5 = put_loop_sentence(out, a4, n);
-    put_size_sentence(out, a5, n)
+    let a4 = put_one_of(
+        out,
+        a3,
+        n,
+        1,
+        b"there are more than 16 loops or 2,048 points.",
+        4,
+        b"the outer loop has fewer than three points.",
+        6,
+        b"the outline has no area left; is the outer loop given counter-clockwise?",
+    );
+    let a5 = put_one_of(
+        out,
+        a4,
+        n,
+        7,
+        b"a loop has fewer than three different points.",
+        8,
+        b"a loop got fewer than four nodes.",
+        9,
+        b"a loop got an odd number of nodes.",
+    );
+    put_one_of(
+        out,
+        a5,
+        n,
+        10,
+        b"the outline needs more than 2,048 nodes at this size.",
+        11,
+        b"the text is not that of a job.",
+        21,
+        b"the plate needs more than 4,096 points or tiles at this size.",
+    )
 }
 
 // A picture of words alone.

@@ -5,8 +5,8 @@ use mathlib.Core.List.{List, _∷_}
 use Prim.Native.Nat.{ℕ, _+_, _-_, _*_, _/_, _≤_, _<_}
 use native.Mathlib.Numerals.{add-one}
 use native.Mathlib.Omega.{arith}
-use lib.ListN.{length, take, drop, getD, drop-of-length-le}
-use lib.Seq.{drop-cons, take-all}
+use lib.ListN.{length, drop, getD, drop-of-length-le}
+use lib.Seq.{drop-cons}
 use lib.Dec.{leb}
 use lib.Ieee.{Float}
 use borrow.Author.Tests.{le-leb, lt-leb, leb-true, leb-false}
@@ -44,7 +44,3 @@ fit-end loops left k t h e = sym (e ∙ rw (drop-of-length-le loops h) (le-leb 0
 pub room : (coords : List Float) (loops : List ℕ) (t : Bool) → t ≡ loopsFit coords loops → t ≡ true → sumOf loops * 2 ≤ length coords
 unfolding loopsFit
 room coords loops t e h = leb-true _ _ (sym e ∙ h)
-
--- the lengths' first part of one is all of them
-pub only-one : (loops : List ℕ) → length loops ≡ 1 → take 1 (drop 0 loops) ≡ loops
-only-one loops one = take-all 1 loops (omega arith)

@@ -1,6 +1,4 @@
 // The measures of an outline: the coordinates of all loops and the loops' lengths, the outer one first.
-// Where there is one loop, the lengths go on as a slice whose length the compiler knows: it then has only geometry's way of
-// one loop to compile in, and lays nothing in memory.
 ghost use mathlib.Core.Path.{_≡_};
 ghost use Rattle.exports_geometry.specs.Measures.{point};
 ghost use Rattle.exports_geometry.specs.Outline.{areaOr, boundaryOr, containsOrNot, loopsFit};
@@ -23,35 +21,15 @@ fn loops_fit(coords: &[f64], loop_lengths: &[u16]) -> bool
     true
 }
 
-// The area, where the lengths fit.
-fn area_or_nan(coords: &[f64], loops: &[u16]) -> f64
-    ensures { λ r. ⌜ r ≡ areaOr (now (coords .entry)) (now (loops .entry)) ⌝ }
-{
-    if loops_fit(coords, loops) {
-        return geometry::domain_area(coords, loops);
-    }
-    0.0 / 0.0
-}
-
 // The area within the outer loop and outside the holes; NaN where the lengths ask for more points than there are.
 #[no_mangle]
 pub extern "C" fn pave_domain_area(coords: &[f64], loop_lengths: &[u16]) -> f64
     ensures { λ r. ⌜ r ≡ areaOr (now (coords .entry)) (now («loop_lengths» .entry)) ⌝ }
 {
-    if loop_lengths.len() == 1 {
-        return area_or_nan(coords, &loop_lengths[0..1]);
+    if loops_fit(coords, loop_lengths) {
+        return geometry::domain_area(coords, loop_lengths);
     }
-    area_or_nan(coords, loop_lengths)
-}
-
-// Whether `p` is within, where the lengths fit.
-fn contains_or_not(p: Point, coords: &[f64], loops: &[u16]) -> bool
-    ensures { λ r. ⌜ r ≡ containsOrNot p (now (coords .entry)) (now (loops .entry)) ⌝ }
-{
-    if loops_fit(coords, loops) {
-        return geometry::contains(coords, loops, p);
-    }
-    false
+    0.0 / 0.0
 }
 
 // Whether (x, y) is within the outer loop and outside every hole; false where the lengths ask for more points than there are.
@@ -59,10 +37,10 @@ fn contains_or_not(p: Point, coords: &[f64], loops: &[u16]) -> bool
 pub extern "C" fn pave_contains(x: f64, y: f64, coords: &[f64], loop_lengths: &[u16]) -> bool
     ensures { λ r. ⌜ r ≡ containsOrNot (point x y) (now (coords .entry)) (now («loop_lengths» .entry)) ⌝ }
 {
-    if loop_lengths.len() == 1 {
-        return contains_or_not(Point { x, y }, coords, &loop_lengths[0..1]);
+    if loops_fit(coords, loop_lengths) {
+        return geometry::contains(coords, loop_lengths, Point { x, y });
     }
-    contains_or_not(Point { x, y }, coords, loop_lengths)
+    false
 }
 
 // The distance from (x, y) to the nearest side; NaN where the lengths ask for more points than there are.

@@ -38,46 +38,81 @@ put-bytes-requires-2 c κs =
     let entry : tie.Start = search in
     fits (step (step (begun entry) (put1 .put-bytes .ensures)) (put2 .put-decimal .ensures)) (entry .pre)
 
-put-input-sentence-requires : tie.Need-put-input-sentence-requires
-put-input-sentence-requires c κs =
+slice-aggregate-put-one-of : tie.Need-slice-aggregate-put-one-of
+slice-aggregate-put-one-of c = search needs
+
+slice-aggregate-put-one-of-2 : tie.Need-slice-aggregate-put-one-of-2
+slice-aggregate-put-one-of-2 c = search needs
+
+slice-aggregate-put-one-of-3 : tie.Need-slice-aggregate-put-one-of-3
+slice-aggregate-put-one-of-3 c = search needs
+
+put-one-of-requires : tie.Need-put-one-of-requires
+put-one-of-requires c κs =
     let put3 : tie.After-put-bytes2 = search in
     let put2 : tie.After-put-decimal = search in
     let put1 : tie.After-put-bytes = search in
     let entry : tie.Start = search in
     fits (step (step (step (begun entry) (put1 .put-bytes .ensures)) (put2 .put-decimal .ensures)) (put3 .put-bytes2 .ensures)) (entry .pre)
 
-put-loop-sentence-requires : tie.Need-put-loop-sentence-requires
-put-loop-sentence-requires c κs =
-    let put4 : tie.After-put-input-sentence = search in
-    let put3 : tie.After-put-bytes2 = search in
-    let put2 : tie.After-put-decimal = search in
-    let put1 : tie.After-put-bytes = search in
-    let entry : tie.Start = search in
-    fits (step (step (step (step (begun entry) (put1 .put-bytes .ensures)) (put2 .put-decimal .ensures)) (put3 .put-bytes2 .ensures)) (put4 .put-input-sentence .ensures)) (entry .pre)
+slice-aggregate-put-one-of-4 : tie.Need-slice-aggregate-put-one-of-4
+slice-aggregate-put-one-of-4 c = search needs
 
-put-size-sentence-requires : tie.Need-put-size-sentence-requires
-put-size-sentence-requires c κs =
-    let put5 : tie.After-put-loop-sentence = search in
-    let put4 : tie.After-put-input-sentence = search in
+slice-aggregate-put-one-of-5 : tie.Need-slice-aggregate-put-one-of-5
+slice-aggregate-put-one-of-5 c = search needs
+
+slice-aggregate-put-one-of-6 : tie.Need-slice-aggregate-put-one-of-6
+slice-aggregate-put-one-of-6 c = search needs
+
+put-one-of-requires-2 : tie.Need-put-one-of-requires-2
+put-one-of-requires-2 c κs =
+    let put4 : tie.After-put-one-of = search in
     let put3 : tie.After-put-bytes2 = search in
     let put2 : tie.After-put-decimal = search in
     let put1 : tie.After-put-bytes = search in
     let entry : tie.Start = search in
-    fits (step (step (step (step (step (begun entry) (put1 .put-bytes .ensures)) (put2 .put-decimal .ensures)) (put3 .put-bytes2 .ensures)) (put4 .put-input-sentence .ensures)) (put5 .put-loop-sentence .ensures)) (entry .pre)
+    fits (step (step (step (step (begun entry) (put1 .put-bytes .ensures)) (put2 .put-decimal .ensures)) (put3 .put-bytes2 .ensures)) (put4 .put-one-of .ensures)) (entry .pre)
+
+slice-aggregate-put-one-of-7 : tie.Need-slice-aggregate-put-one-of-7
+slice-aggregate-put-one-of-7 c = search needs
+
+slice-aggregate-put-one-of-8 : tie.Need-slice-aggregate-put-one-of-8
+slice-aggregate-put-one-of-8 c = search needs
+
+slice-aggregate-put-one-of-9 : tie.Need-slice-aggregate-put-one-of-9
+slice-aggregate-put-one-of-9 c = search needs
+
+put-one-of-requires-3 : tie.Need-put-one-of-requires-3
+put-one-of-requires-3 c κs =
+    let put5 : tie.After-put-one-of2 = search in
+    let put4 : tie.After-put-one-of = search in
+    let put3 : tie.After-put-bytes2 = search in
+    let put2 : tie.After-put-decimal = search in
+    let put1 : tie.After-put-bytes = search in
+    let entry : tie.Start = search in
+    fits (step (step (step (step (step (begun entry) (put1 .put-bytes .ensures)) (put2 .put-decimal .ensures)) (put3 .put-bytes2 .ensures)) (put4 .put-one-of .ensures)) (put5 .put-one-of2 .ensures)) (entry .pre)
 
 same-length : tie.Need-same-length
-same-length c = search needs
+same-length c =
+    let put6 : tie.After-put-one-of3 = search in
+    let put5 : tie.After-put-one-of2 = search in
+    let put4 : tie.After-put-one-of = search in
+    let put3 : tie.After-put-bytes2 = search in
+    let put2 : tie.After-put-decimal = search in
+    let put1 : tie.After-put-bytes = search in
+    let entry : tie.Start = search in
+    (step (step (step (step (step (step (begun entry) (put1 .put-bytes .ensures)) (put2 .put-decimal .ensures)) (put3 .put-bytes2 .ensures)) (put4 .put-one-of .ensures)) (put5 .put-one-of2 .ensures)) (put6 .put-one-of3 .ensures)) .midst .long
 
 returns : tie.Need-returns
 returns c =
-    let put6 : tie.After-put-size-sentence = search in
-    let put5 : tie.After-put-loop-sentence = search in
-    let put4 : tie.After-put-input-sentence = search in
+    let put6 : tie.After-put-one-of3 = search in
+    let put5 : tie.After-put-one-of2 = search in
+    let put4 : tie.After-put-one-of = search in
     let put3 : tie.After-put-bytes2 = search in
     let put2 : tie.After-put-decimal = search in
     let put1 : tie.After-put-bytes = search in
     let entry : tie.Start = search in
-    done (step (step (step (step (step (step (begun entry) (put1 .put-bytes .ensures)) (put2 .put-decimal .ensures)) (put3 .put-bytes2 .ensures)) (put4 .put-input-sentence .ensures)) (put5 .put-loop-sentence .ensures)) (put6 .put-size-sentence .ensures))
+    done (step (step (step (step (step (step (begun entry) (put1 .put-bytes .ensures)) (put2 .put-decimal .ensures)) (put3 .put-bytes2 .ensures)) (put4 .put-one-of .ensures)) (put5 .put-one-of2 .ensures)) (put6 .put-one-of3 .ensures))
 
 pub put-refused-spec : {M : Type 1} → statement M
 put-refused-spec =
@@ -88,8 +123,17 @@ put-refused-spec =
     put-decimal-requires
     slice-aggregate-put-bytes-2
     put-bytes-requires-2
-    put-input-sentence-requires
-    put-loop-sentence-requires
-    put-size-sentence-requires
+    slice-aggregate-put-one-of
+    slice-aggregate-put-one-of-2
+    slice-aggregate-put-one-of-3
+    put-one-of-requires
+    slice-aggregate-put-one-of-4
+    slice-aggregate-put-one-of-5
+    slice-aggregate-put-one-of-6
+    put-one-of-requires-2
+    slice-aggregate-put-one-of-7
+    slice-aggregate-put-one-of-8
+    slice-aggregate-put-one-of-9
+    put-one-of-requires-3
     same-length
     returns)

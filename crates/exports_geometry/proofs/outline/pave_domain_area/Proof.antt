@@ -1,42 +1,24 @@
--- `exports_geometry::outline::pave_domain_area` meets its contract: the lengths of one loop, taken as a part, are the lengths.
-use mathlib.Core.Path.{ap, _∙_}
+-- `exports_geometry::outline::pave_domain_area` meets its contract: the test before the call decides.
 use borrow.Author.Needs.{needs}
 use Rattle.exports_geometry.specs.Outline.{areaOr}
-use Rattle.exports_geometry.proofs.Loops.{only-one}
+use Rattle.exports_geometry.proofs.Choices.{nan-is}
+use Rattle.exports_geometry.proofs.Loops.{room}
 use Rattle.exports_geometry.proofs.outline.pave_domain_area.Statement.{statement}
 use Rattle.exports_geometry.proofs.outline.pave_domain_area.Tie as tie
 
-sub-area-or-nan : tie.Need-sub-area-or-nan
-sub-area-or-nan c = search needs
+loops-fit-requires : tie.Need-loops-fit-requires
+loops-fit-requires c κs = search needs
 
-part-area-or-nan-start : tie.Need-part-area-or-nan-start
-part-area-or-nan-start c = search needs
-
-part-area-or-nan-end : tie.Need-part-area-or-nan-end
-part-area-or-nan-end c = search needs
-
-area-or-nan-requires : tie.Need-area-or-nan-requires
-area-or-nan-requires c κs = search needs
+domain-area-requires : tie.Need-domain-area-requires
+domain-area-requires c κs = room _ _ _ (c .before .loops-fit .ensures) (c .if1 .taken)
 
 returns : tie.Need-returns
-returns c =
-    let one : tie.Then1 = search in
-    c .area-or-nan .ensures ∙ ap (areaOr _) (only-one _ (one .if1 .taken))
-
-area-or-nan-requires-2 : tie.Need-area-or-nan-requires-2
-area-or-nan-requires-2 c κs = search needs
+unfolding areaOr
+returns c = rw (← c .before .before .loops-fit .ensures, c .before .if1 .taken) (c .domain-area .ensures)
 
 returns-2 : tie.Need-returns-2
-returns-2 c = search needs
+unfolding areaOr
+returns-2 c = rw (← c .before .loops-fit .ensures, c .if1 .left) nan-is
 
 pub pave-domain-area-spec : {M : Type 1} → statement M
-pave-domain-area-spec =
-    tie.close
-    (tie.spec
-    sub-area-or-nan
-    part-area-or-nan-start
-    part-area-or-nan-end
-    area-or-nan-requires
-    returns
-    area-or-nan-requires-2
-    returns-2)
+pave-domain-area-spec = tie.close (tie.spec loops-fit-requires domain-area-requires returns returns-2)
