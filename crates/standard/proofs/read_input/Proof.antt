@@ -27,8 +27,9 @@ enum-told c = search needs
 
 same-length : tie.Need-same-length Inv-loop μ-loop
 same-length c =
+    let at-loop : tie.At-loop Inv-loop μ-loop = search in
     let at-read : tie.After-read-behind Inv-loop μ-loop = search in
-    at-read .read-behind .ensures .0 ∙ c .before .before .before .before .before .before .before .loop .inv .0
+    at-read .read-behind .ensures .0 ∙ at-loop .loop .inv .0
 
 returns : tie.Need-returns Inv-loop μ-loop
 returns c = search needs
