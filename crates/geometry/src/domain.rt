@@ -28,7 +28,7 @@ fn rest(coords: &[f64], n: usize) -> &[f64]
 }
 
 // The lengths behind the first.
-fn holes(loops: &[u16]) -> &[u16]
+fn later(loops: &[u16]) -> &[u16]
     requires { ⌜ 1 ≤ length (now loops) ⌝ }
     ensures { λ r. ⌜ now r ≡ drop 1 (now (loops .entry)) ⌝ }
 {
@@ -41,34 +41,34 @@ fn holes_area(coords: &[f64], loops: &[u16]) -> f64
     ensures { λ r. ⌜ r ≡ domain.holesArea (neg (decimal 0 0)) (domain.rings (now (coords .entry)) (now (loops .entry))) ⌝ }
 {
     let mut sum = -0.0;
-    let mut from = 0usize;
-    let mut k = 0usize;
-    while k < loops.len() {
-        let n = wide(loops[k]);
-        sum = sum + float::absolute(signed_area(rest(coords, from), n));
-        from += n;
-        k += 1;
+    let mut ahead = coords;
+    let mut lengths = loops;
+    while 0 < lengths.len() {
+        let n = wide(lengths[0]);
+        sum = sum + float::absolute(signed_area(ahead, n));
+        let behind = rest(ahead, n);
+        let more = later(lengths);
+        ahead = behind;
+        lengths = more;
     }
     sum
 }
 
 // The area within the outer loop and outside the holes: positive where the outer loop is counter-clockwise. An outline of one
-// loop is its ring. The lengths are handed on by a name of their own: so they come in registers, and a caller that knows that
-// there is one loop has this way alone compiled into it.
+// loop is its ring.
 pub fn domain_area(coords: &[f64], loops: &[u16]) -> f64
     requires { ⌜ domain.sumOf (now loops) * 2 ≤ length (now coords) ⌝ }
     ensures { λ r. ⌜ r ≡ domain.domainArea (domain.rings (now (coords .entry)) (now (loops .entry))) ⌝ }
 {
-    if loops.len() == 1 {
-        let only = wide(loops[0]);
-        return signed_area(coords, only) - -0.0;
-    }
     if loops.len() == 0 {
         return 0.0;
     }
     let n = wide(loops[0]);
-    let lengths = loops;
-    signed_area(coords, n) - holes_area(rest(coords, n), holes(lengths))
+    let outer = signed_area(coords, n);
+    if loops.len() == 1 {
+        return outer - -0.0;
+    }
+    outer - holes_area(rest(coords, n), later(loops))
 }
 
 // Whether `p` is within one of some rings.
@@ -76,35 +76,36 @@ fn in_some(coords: &[f64], loops: &[u16], p: Point) -> bool
     requires { ⌜ domain.sumOf (now loops) * 2 ≤ length (now coords) ⌝ }
     ensures { λ r. ⌜ r ≡ domain.inSome p (domain.rings (now (coords .entry)) (now (loops .entry))) ⌝ }
 {
-    let mut from = 0usize;
-    let mut k = 0usize;
-    while k < loops.len() {
-        let n = wide(loops[k]);
-        if in_polygon(p, rest(coords, from), n) {
+    let mut ahead = coords;
+    let mut lengths = loops;
+    while 0 < lengths.len() {
+        let n = wide(lengths[0]);
+        if in_polygon(p, ahead, n) {
             return true;
         }
-        from += n;
-        k += 1;
+        let behind = rest(ahead, n);
+        let more = later(lengths);
+        ahead = behind;
+        lengths = more;
     }
     false
 }
 
-// Whether `p` is within the outer loop and outside every hole, with the same two ways.
+// Whether `p` is within the outer loop and outside every hole. An outline of one loop is its ring here too.
 pub fn contains(coords: &[f64], loops: &[u16], p: Point) -> bool
     requires { ⌜ domain.sumOf (now loops) * 2 ≤ length (now coords) ⌝ }
     ensures { λ r. ⌜ r ≡ domain.contains (domain.rings (now (coords .entry)) (now (loops .entry))) p ⌝ }
 {
-    if loops.len() == 1 {
-        let only = wide(loops[0]);
-        return in_polygon(p, coords, only);
-    }
     if loops.len() == 0 {
         return false;
     }
     let n = wide(loops[0]);
-    let lengths = loops;
-    if in_polygon(p, coords, n) {
-        return !in_some(rest(coords, n), holes(lengths), p);
+    let within = in_polygon(p, coords, n);
+    if loops.len() == 1 {
+        return within;
+    }
+    if within {
+        return !in_some(rest(coords, n), later(loops), p);
     }
     false
 }
@@ -132,13 +133,15 @@ pub fn distance_to_boundary(coords: &[f64], loops: &[u16], p: Point) -> f64
     ensures { λ r. ⌜ r ≡ domain.distanceToBoundary (domain.rings (now (coords .entry)) (now (loops .entry))) p ⌝ }
 {
     let mut least = 1.0 / 0.0;
-    let mut from = 0usize;
-    let mut k = 0usize;
-    while k < loops.len() {
-        let n = wide(loops[k]);
-        least = least_square(p, least, rest(coords, from), n);
-        from += n;
-        k += 1;
+    let mut ahead = coords;
+    let mut lengths = loops;
+    while 0 < lengths.len() {
+        let n = wide(lengths[0]);
+        least = least_square(p, least, ahead, n);
+        let behind = rest(ahead, n);
+        let more = later(lengths);
+        ahead = behind;
+        lengths = more;
     }
     float::root(least)
 }

@@ -85,15 +85,7 @@ fn turn_of(a: Point, b: Point, c: Point) -> f64
 fn far_apart(d: f64, e: f64) -> bool
     ensures { λ r. ⌜ r ≡ apart d e ⌝ }
 {
-    if d > 1e-12 {
-        if e < -1e-12 {
-            return true;
-        }
-    }
-    if d < -1e-12 {
-        return e > 1e-12;
-    }
-    false
+    (d > 1e-12) & (e < -1e-12) | (d < -1e-12) & (e > 1e-12)
 }
 
 // Whether the open sides `a b` and `c d` cross. Sides that touch, or lie in one line, do not.

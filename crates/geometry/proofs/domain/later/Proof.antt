@@ -1,7 +1,7 @@
 use Rattle.geometry.proofs.Outline.{whole-rest}
 use borrow.Author.Needs.{needs}
-use Rattle.geometry.proofs.domain.holes.Statement.{statement}
-use Rattle.geometry.proofs.domain.holes.Tie as tie
+use Rattle.geometry.proofs.domain.later.Statement.{statement}
+use Rattle.geometry.proofs.domain.later.Tie as tie
 
 sub-result : tie.Need-sub-result
 sub-result c = search needs
@@ -15,5 +15,5 @@ part-result-end c = search needs
 returns : tie.Need-returns
 returns c = whole-rest (c .before .args .loops .now) 1
 
-pub holes-spec : {M : Type 1} → statement M
-holes-spec = tie.close (tie.spec sub-result part-result-start part-result-end returns)
+pub later-spec : {M : Type 1} → statement M
+later-spec = tie.close (tie.spec sub-result part-result-start part-result-end returns)
