@@ -11,7 +11,7 @@ use Rattle.state.specs.declared.Answer.{Answer}
 use Rattle.state.specs.declared.Answer.the-variants.{Done, Refused}
 use Rattle.state.specs.State.{State, Held, quadNodes, quadsOf, cut, countsOf, lengths, noCounts, written, reading}
 use Rattle.state.specs.Given.{wrongState}
-use Rattle.state.specs.Call.{Left, answerNumber, numberOf, held, left, lengthsOf}
+use Rattle.state.specs.Call.{Left, answerNumber, numberOf, held, left, lent}
 use Rattle.state.specs.Sound.{Sound, sizesOf}
 use Rattle.state.proofs.Written.{reading-written}
 use Rattle.state.proofs.Reading.{Counted, sound-counted, sizes-long, points-long, nodes-read, quads-read, fronts-read}
@@ -105,9 +105,9 @@ unfolding answerText
 written-text s even = ap stateText (reading-written s even)
 
 -- an answer whose buffers have document 01's lengths and are not refused with 25, as a job's are (demand `acceptedBack`)
-pub sound-answer : (x : Left) → lengths (x .held) ≡ lengthsOf 8192 16384 2048 16 → (numberOf x ≡ 0 → wrongState (x .held) ≡ false) → SoundAnswer x
+pub sound-answer : (x : Left) → lengths (x .held) ≡ lent → (numberOf x ≡ 0 → wrongState (x .held) ≡ false) → SoundAnswer x
 sound-answer x long back = go (x .answer) (x .held) long back
   where
-    go : (a : Answer) (b : Held) → lengths b ≡ lengthsOf 8192 16384 2048 16 → (answerNumber a ≡ 0 → wrongState b ≡ false) → SoundHeld a b
+    go : (a : Answer) (b : Held) → lengths b ≡ lent → (answerNumber a ≡ 0 → wrongState b ≡ false) → SoundHeld a b
     go (Done c) b l f = not-refused b l (f refl)
     go (Refused n) b l f = tt

@@ -6,6 +6,7 @@ ghost use Prim.Native.Nat.{ℕ, _*_, _+_, _<_, _≤_};
 ghost use lib.ListN.{getD, length};
 ghost use lib.Seq.{sets};
 ghost use Rattle.geometry.specs.Domain.{sumOf};
+ghost use Rattle.state.specs.Limits.{frontLimit};
 ghost use Rattle.state.specs.State.{cut, joined, quadNodes};
 ghost use Rattle.closing_search.specs.Closures.{closureQuads};
 ghost use Rattle.closing_search.specs.Finding.{closuresOf, stays};
@@ -42,7 +43,7 @@ pub fn find_closures(
     added: &mut [u16],
     kept: &mut [bool],
 ) -> usize
-    requires { ⌜ (length (now lengths) ≤ 16) × (length (now lengths) * 8 ≤ length (now added)) × (length (now lengths) ≤ length (now kept)) ⌝ }
+    requires { ⌜ (length (now lengths) ≤ frontLimit) × (length (now lengths) * 8 ≤ length (now added)) × (length (now lengths) ≤ length (now kept)) ⌝ }
     requires { ⌜ (sumOf (now lengths) ≤ length (now «front_nodes»)) × ((i : ℕ) → i < sumOf (now lengths) → getD (now «front_nodes») i 0 * 2 + 1 < length (now points)) ⌝ }
     ensures { λ r. ⌜ (r ≡ length (closuresOf limit (now (points .entry)) (cut (now (lengths .entry)) (now («front_nodes» .entry))) (length (now (lengths .entry)))))
         × (now (added .exit) ≡ sets (now (added .entry)) 0 (joined (map quadNodes (closuresOf limit (now (points .entry)) (cut (now (lengths .entry)) (now («front_nodes» .entry))) (length (now (lengths .entry)))))))

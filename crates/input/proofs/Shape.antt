@@ -12,7 +12,7 @@ use Rattle.state.specs.State.{Held, Lengths, lengths}
 use Rattle.state.specs.Outcome.{firstOf}
 use Rattle.state.specs.Call.{lengthsOf}
 use Rattle.state.proofs.Basics.{or-false}
-use Rattle.input.specs.Job.{Job, loopLimit, wrongLengths, wrongShape, inputNumber}
+use Rattle.input.specs.Job.{Job, loopLimit, wrongLengths, wrongShape, inputNumber, pairLimit}
 
 pub record Shaped (j : Job) (l : Lengths) : Type 0 where
   pub points : l .points ≡ pointsLength
@@ -22,7 +22,7 @@ pub record Shaped (j : Job) (l : Lengths) : Type 0 where
   pub some : 0 < length (j .loops)
   pub few : length (j .loops) ≤ loopLimit
   pub even : sumOf (j .loops) * 2 ≡ length (j .coords)
-  pub small : length (j .coords) ≤ 4096
+  pub small : length (j .coords) ≤ pairLimit * 2
 
 is : (a b : ℕ) → not (eqb a b) ≡ false → a ≡ b
 is a b h = eqb-true a b (not-false _ h)
@@ -30,7 +30,7 @@ is a b h = eqb-true a b (not-false _ h)
 halved : (p n : ℕ) → (n % 2 ≡ 1 → ⊥) → p ≡ n / 2 → p * 2 ≡ n
 halved p n h e = omega (arith, h)
 
-half-small : (n : ℕ) → (n % 2 ≡ 1 → ⊥) → n / 2 ≤ 2048 → n ≤ 4096
+half-small : (n : ℕ) → (n % 2 ≡ 1 → ⊥) → n / 2 ≤ pairLimit → n ≤ pairLimit * 2
 half-small n h e = omega (arith, h)
 
 positive : (n : ℕ) → (n ≡ 0 → ⊥) → 0 < n

@@ -12,6 +12,7 @@ use lib.Ieee.{Float, binary64, ofInt}
 use lib.IntN.{ℤ, pos}
 use lib.ListN.{length, drop, length-map}
 use Rattle.text.specs.Fields.{behind}
+use Rattle.input.specs.Job.{loopLimit, pairLimit}
 use Rattle.state.specs.State.{joined}
 use Rattle.state.proofs.Basics.{or-true}
 use Rattle.state.proofs.Stores.{front-part}
@@ -149,18 +150,18 @@ module _ (t : List ℕ) (x : Float) (c : List Float) (l : List ℕ) (s : Stored)
   unfolding answerOf
   many e = record { answer = rw (f .is, e); holds = λ d g m. absurd (true≢false (sym e ∙ ap tooMany (some-is (sym (f .is) ∙ g)) ∙ m)) }
 
-  pub many-loops : 16 < s .loops → JobReadIs t (s .coords) (s .lengths) jobRead.TooMany
+  pub many-loops : loopLimit < s .loops → JobReadIs t (s .coords) (s .lengths) jobRead.TooMany
   unfolding tooMany
-  many-loops h = many (rw (lt-ltb 16 (length (loops (f .drawing))) (rw loops-is at h)))
+  many-loops h = many (rw (lt-ltb loopLimit (length (loops (f .drawing))) (rw loops-is at h)))
 
-  pub many-pairs : 2048 < s .pairs → JobReadIs t (s .coords) (s .lengths) jobRead.TooMany
+  pub many-pairs : pairLimit < s .pairs → JobReadIs t (s .coords) (s .lengths) jobRead.TooMany
   unfolding tooMany
-  many-pairs h = many (rw (lt-ltb 2048 (length (joined (loops (f .drawing)))) (rw total-is at h)) (or-true (ltb 16 (length (loops (f .drawing))))))
+  many-pairs h = many (rw (lt-ltb pairLimit (length (joined (loops (f .drawing)))) (rw total-is at h)) (or-true (ltb loopLimit (length (loops (f .drawing))))))
 
-  module _ (long : length c ≡ 4096) (wide : length l ≡ 16) (few : s .loops ≤ 16) (small : s .pairs ≤ 2048) where
+  module _ (long : length c ≡ pairLimit * 2) (wide : length l ≡ loopLimit) (few : s .loops ≤ loopLimit) (small : s .pairs ≤ pairLimit) where
     not-many : tooMany (f .drawing) ≡ false
     unfolding tooMany
-    not-many = rw (le-ltb 16 (length (loops (f .drawing))) (rw loops-is at few), le-ltb 2048 (length (joined (loops (f .drawing)))) (rw total-is at small))
+    not-many = rw (le-ltb loopLimit (length (loops (f .drawing))) (rw loops-is at few), le-ltb pairLimit (length (joined (loops (f .drawing)))) (rw total-is at small))
 
     held : Holds (f .drawing) (s .coords) (s .lengths)
     unfolding jobOf storing

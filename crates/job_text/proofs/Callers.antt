@@ -10,6 +10,7 @@ use lib.Dec.{ltb}
 use lib.Ieee.{Float, binary64, ofInt}
 use lib.IntN.{pos}
 use lib.ListN.{length, take}
+use Rattle.input.specs.Job.{loopLimit, pairLimit}
 use Rattle.state.specs.State.{joined}
 use Rattle.state.proofs.Basics.{or-false}
 use Rattle.job_text.specs.Drawing.{Drawing, loops, jobOf}
@@ -25,7 +26,7 @@ pub record JobIs (t : List ℕ) (c : List Float) (l : List ℕ) (size : Float) (
   pub h : size ≡ jobOf drawing .h
   pub coords : take (pairs * 2) c ≡ jobOf drawing .coords
   pub lengths : take n l ≡ jobOf drawing .loops
-  pub few : (pairs ≤ 2048) × (n ≤ 16)
+  pub few : (pairs ≤ pairLimit) × (n ≤ loopLimit)
 
 module _ (t : List ℕ) (c : List Float) (l : List ℕ) where
   pub job-is : (size : Float) (pairs n : ℕ) → JobReadIs t c l (jobRead.Is size pairs n) → JobIs t c l size pairs n
@@ -39,9 +40,9 @@ module _ (t : List ℕ) (c : List Float) (l : List ℕ) where
           let p : length (joined (loops d)) ≡ pairs = cc in
           let q : length (loops d) ≡ n = cc in
           let held = r .holds d i m in
-          let both = or-false (ltb 16 (length (loops d))) (ltb 2048 (length (joined (loops d)))) m in
-          let a = ltb-false 16 (length (loops d)) (both .0) in
-          let b = ltb-false 2048 (length (joined (loops d))) (both .1) in
+          let both = or-false (ltb loopLimit (length (loops d))) (ltb pairLimit (length (joined (loops d)))) m in
+          let a = ltb-false loopLimit (length (loops d)) (both .0) in
+          let b = ltb-false pairLimit (length (joined (loops d))) (both .1) in
           record { drawing = d; is = i; fits = m; h = s; coords = rw p at (held .coords); lengths = ap (λ (k : ℕ). take k l) (sym q) ∙ held .lengths; few = (omega arith, omega arith) }
 
       by : (o : Option Drawing) → readJob t ≡ o → jobRead.Is size pairs n ≡ answerOf o → JobIs t c l size pairs n

@@ -1,6 +1,8 @@
 // A job's text, whole.
+ghost use Prim.Native.Nat.{_*_};
 ghost use mathlib.Core.Path.{_≡_};
 ghost use lib.ListN.{length};
+ghost use Rattle.input.specs.Job.{loopLimit, pairLimit};
 ghost use Rattle.job_text.specs.Answers.{JobReadIs};
 use crate::lines::Measure;
 use crate::lines::read_size;
@@ -17,7 +19,7 @@ pub enum JobRead {
 
 // The job of a text, with its points and loop lengths from the first place of the buffers on.
 pub fn read_job(text: &[u8], coords: &mut [f64], loop_lengths: &mut [u16]) -> JobRead
-    requires { ⌜ (length (now coords) ≡ 4096) × (length (now «loop_lengths») ≡ 16) ⌝ }
+    requires { ⌜ (length (now coords) ≡ pairLimit * 2) × (length (now «loop_lengths») ≡ loopLimit) ⌝ }
     ensures { λ r. ⌜ JobReadIs (now (text .entry)) (now (coords .exit)) (now («loop_lengths» .exit)) r ⌝ }
 {
     if 65536 < text.len() {

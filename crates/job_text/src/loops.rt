@@ -7,6 +7,7 @@ ghost use mathlib.Core.Option.{none, some};
 ghost use Prim.Native.Nat.{_+_, _*_, _≤_, _<_};
 ghost use lib.ListN.{length, drop, set};
 ghost use lib.Seq.{sets};
+ghost use Rattle.input.specs.Job.{loopLimit, pairLimit};
 ghost use Rattle.text.specs.Fields.{behind};
 ghost use Rattle.job_text.specs.Drawing.{holeWord};
 ghost use Rattle.job_text.specs.Answers.{LoopReadIs, holesAt, loopsFrom, storing, stored, storedIn};
@@ -28,7 +29,7 @@ pub enum LoopsRead {
 
 // A point, stored as pair `i` where there is room.
 fn store_point(coords: &mut [f64], i: usize, x: f64, y: f64)
-    requires { ⌜ length (now coords) ≡ 4096 ⌝ }
+    requires { ⌜ length (now coords) ≡ pairLimit * 2 ⌝ }
     ensures { λ _. ⌜ now (coords .exit) ≡ sets (now (coords .entry)) (i * 2) (x ∷ y ∷ []) ⌝ }
 {
     if i < 2048 {
@@ -38,7 +39,7 @@ fn store_point(coords: &mut [f64], i: usize, x: f64, y: f64)
 
 // A loop's length, stored at place `i` where there is room.
 fn store_length(loop_lengths: &mut [u16], i: usize, n: usize)
-    requires { ⌜ (length (now «loop_lengths») ≡ 16) × (n < 65536) ⌝ }
+    requires { ⌜ (length (now «loop_lengths») ≡ loopLimit) × (n < 65536) ⌝ }
     ensures { λ _. ⌜ now («loop_lengths» .exit) ≡ set (now («loop_lengths» .entry)) i n ⌝ }
 {
     if i < 16 {
@@ -48,7 +49,7 @@ fn store_length(loop_lengths: &mut [u16], i: usize, n: usize)
 
 // `at` lines from `at` on, as long as they come, stored from pair `pairs` on.
 fn read_loop(text: &[u8], at: usize, coords: &mut [f64], pairs: usize) -> LoopRead
-    requires { ⌜ (at ≤ length (now text)) × (pairs ≤ at) × (length (now coords) ≡ 4096) ⌝ }
+    requires { ⌜ (at ≤ length (now text)) × (pairs ≤ at) × (length (now coords) ≡ pairLimit * 2) ⌝ }
     ensures { λ r. ⌜ LoopReadIs (now (text .entry)) at pairs (now (coords .entry)) (now (coords .exit)) r ⌝ }
 {
     let mut next = at;
@@ -79,7 +80,7 @@ fn read_holes(
     loop_lengths: &mut [u16],
     outer: usize,
 ) -> LoopsRead
-    requires { ⌜ (at ≤ length (now text)) × (length (now text) ≤ 65536) × (outer ≤ at) × (length (now coords) ≡ 4096) × (length (now «loop_lengths») ≡ 16) ⌝ }
+    requires { ⌜ (at ≤ length (now text)) × (length (now text) ≤ 65536) × (outer ≤ at) × (length (now coords) ≡ pairLimit * 2) × (length (now «loop_lengths») ≡ loopLimit) ⌝ }
     ensures { λ r. ⌜ storedIn r (now (coords .exit)) (now («loop_lengths» .exit)) ≡ storing (stored (now (coords .entry)) (now («loop_lengths» .entry)) outer 1) (holesAt (now (text .entry)) at) ⌝ }
 {
     let mut pairs = outer;
@@ -101,7 +102,7 @@ fn read_holes(
 
 // The outer loop from `at` on, and the holes up to the text's end.
 pub fn read_loops(text: &[u8], at: usize, coords: &mut [f64], loop_lengths: &mut [u16]) -> LoopsRead
-    requires { ⌜ (at ≤ length (now text)) × (length (now text) ≤ 65536) × (1 ≤ at) × (length (now coords) ≡ 4096) × (length (now «loop_lengths») ≡ 16) ⌝ }
+    requires { ⌜ (at ≤ length (now text)) × (length (now text) ≤ 65536) × (1 ≤ at) × (length (now coords) ≡ pairLimit * 2) × (length (now «loop_lengths») ≡ loopLimit) ⌝ }
     ensures { λ r. ⌜ storedIn r (now (coords .exit)) (now («loop_lengths» .exit)) ≡ storing (stored (now (coords .entry)) (now («loop_lengths» .entry)) 0 0) (loopsFrom (drop at (now (text .entry)))) ⌝ }
 {
     let outer = read_loop(text, at, coords, 0);

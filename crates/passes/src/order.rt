@@ -2,6 +2,7 @@
 ghost use mathlib.Core.Path.{_≡_};
 ghost use Prim.Native.Nat.{ℕ, _*_, _+_, _<_, _≤_};
 ghost use lib.ListN.{getD, length, take};
+ghost use Rattle.state.specs.Limits.{frontLimit};
 ghost use Rattle.geometry.specs.Domain.{sumOf};
 ghost use Rattle.rules.specs.Passes.{inserted, ordered};
 ghost use Rattle.passes.specs.Order.{lengthIn, lengthOf, orderOf, putIn};
@@ -11,7 +12,7 @@ use state::nodes_of;
 
 // The length of each front, measured once.
 fn lengths_of(points: &[f64], front_nodes: &[u16], sizes: &[u16]) -> [f64; 16]
-    requires { ⌜ (length (now sizes) ≤ 16) × (sumOf (now sizes) ≤ length (now «front_nodes»)) ⌝ }
+    requires { ⌜ (length (now sizes) ≤ frontLimit) × (sumOf (now sizes) ≤ length (now «front_nodes»)) ⌝ }
     requires { ⌜ ((i : ℕ) → i < sumOf (now sizes) → getD (now «front_nodes») i 0 * 2 + 1 < length (now points)) ⌝ }
     ensures { λ r. ⌜ ((k : ℕ) → k < length (now (sizes .entry)) → lengthIn r k ≡ lengthOf (now (points .entry)) (now («front_nodes» .entry)) (now (sizes .entry)) k) ⌝ }
 {
@@ -27,7 +28,7 @@ fn lengths_of(points: &[f64], front_nodes: &[u16], sizes: &[u16]) -> [f64; 16]
 
 // Where front `i` goes among the fronts before it, which are in order: behind every one that is not longer.
 fn place_of(lengths: &[f64; 16], order: &[usize], i: usize) -> usize
-    requires { ⌜ (i < 16) × (i < length (now order)) × ((k : ℕ) → k < i → getD (now order) k 0 < 16) ⌝ }
+    requires { ⌜ (i < frontLimit) × (i < length (now order)) × ((k : ℕ) → k < i → getD (now order) k 0 < frontLimit) ⌝ }
     ensures { λ r. ⌜ (r ≤ i) × (inserted (lengthIn (now (lengths .entry))) i (take i (now (order .entry))) ≡ take (i + 1) (putIn (now (order .entry)) r i)) ⌝ }
 {
     let own = lengths[i];
@@ -55,7 +56,7 @@ fn put_in(order: &mut [usize], at: usize, i: usize)
 
 // The first `n` fronts by length, each put behind every earlier one that is not longer.
 fn sorted(lengths: &[f64; 16], n: usize) -> [usize; 16]
-    requires { ⌜ n ≤ 16 ⌝ }
+    requires { ⌜ n ≤ frontLimit ⌝ }
     ensures { λ r. ⌜ take n r ≡ ordered (lengthIn (now (lengths .entry))) n ⌝ }
 {
     let mut order = [0; 16];
@@ -68,7 +69,7 @@ fn sorted(lengths: &[f64; 16], n: usize) -> [usize; 16]
 
 // The order of a pass, in the first places: `sizes` says how many nodes each front has.
 pub fn pass_order(points: &[f64], front_nodes: &[u16], sizes: &[u16]) -> [usize; 16]
-    requires { ⌜ (length (now sizes) ≤ 16) × (sumOf (now sizes) ≤ length (now «front_nodes»)) ⌝ }
+    requires { ⌜ (length (now sizes) ≤ frontLimit) × (sumOf (now sizes) ≤ length (now «front_nodes»)) ⌝ }
     requires { ⌜ ((i : ℕ) → i < sumOf (now sizes) → getD (now «front_nodes») i 0 * 2 + 1 < length (now points)) ⌝ }
     ensures { λ r. ⌜ take (length (now (sizes .entry))) r ≡ orderOf (now (points .entry)) (now («front_nodes» .entry)) (now (sizes .entry)) ⌝ }
 {

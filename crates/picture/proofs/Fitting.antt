@@ -7,6 +7,7 @@ use lib.Ieee.{Float, inf}
 use lib.ListN.{length, take}
 use lib.Seq.{length-take-le}
 use Rattle.geometry.specs.Domain.{sumOf}
+use Rattle.state.specs.Limits.{frontLimit, frontNodeLimit, pointsLength, quadLimit}
 use Rattle.state.specs.declared.Counts.{Counts}
 use Rattle.state.specs.State.{Held, quadsOf, cut, reading}
 use Rattle.state.specs.Sound.{Sound, sizesOf}
@@ -47,7 +48,7 @@ outlined-fits b m coords loops n few =
     let r = refused-length n in
     omega arith
 
-dots-length : (points : List Float) (laid : ℕ) → length points ≤ 8192 → length (dotsText points laid) ≤ 450606
+dots-length : (points : List Float) (laid : ℕ) → length points ≤ pointsLength → length (dotsText points laid) ≤ 450606
 unfolding dotsText
 dots-length points laid h =
     let n = length points / 2 in
@@ -57,7 +58,7 @@ dots-length points laid h =
     omega arith
 
 shapes-length : (coords : List Float) (loops : List ℕ) (points : List Float) (quads : List ℕ) (n : ℕ) (lengths nodes : List ℕ) (laid : ℕ)
-    → Few coords loops → length points ≤ 8192 → n ≤ 4096 → sumOf lengths ≤ 2048 → length lengths ≤ 16
+    → Few coords loops → length points ≤ pointsLength → n ≤ quadLimit → sumOf lengths ≤ frontNodeLimit → length lengths ≤ frontLimit
     → length (shapesText coords loops points (quadsOf n quads) (cut lengths nodes) laid) ≤ 1618421
 unfolding shapesText
 shapes-length coords loops points quads n lengths nodes laid few p q s k =

@@ -12,6 +12,7 @@ use lib.ListN.{length, take, replicate, length-take, length-append}
 use lib.Seq.{sets}
 use borrow.Author.Tests.{lt-ltb, le-ltb, eq-eqb, ne-eqb}
 use Rattle.geometry.specs.Domain.{sumOf}
+use Rattle.state.specs.Call.{lent}
 use Rattle.state.specs.State.{joined, padded}
 use Rattle.input.specs.Job.{Job, job}
 use Rattle.input.specs.Defaults.{defaults}
@@ -27,7 +28,6 @@ use Rattle.job_text.proofs.Storing.{length-coordinates}
 use Rattle.job_text.proofs.Callers.{JobIs, job-is, too-many-is, unreadable-is}
 use Rattle.captions.specs.Captions.{wordsText}
 use Rattle.picture.specs.Plates.{answerPicture, Few}
-use Rattle.plate_text.specs.PaveText.{lent}
 use Rattle.picture.specs.Picture.{jobPicture, drawText, pictureRoom, drawnIn, drawCall}
 
 -- ---- a job

@@ -5,13 +5,13 @@ use mathlib.Core.List.{List}
 use mathlib.Core.Option.{Option, Option·elim}
 use lib.Dec.{eqb, ltb}
 use lib.ListN as lists
+use Rattle.state.specs.Call.{lent}
 use Rattle.state.specs.State.{padded}
 use Rattle.input.specs.Job.{Job}
 use Rattle.rules.specs.Calls.{jobCall}
 use Rattle.job_text.specs.Drawing.{Drawing, jobOf}
 use Rattle.job_text.specs.Reading.{readJob}
 use Rattle.job_text.specs.Answers.{tooMany}
-use Rattle.plate_text.specs.PaveText.{lent}
 use Rattle.captions.specs.Captions.{wordsText}
 use Rattle.picture.specs.Plates.{answerPicture}
 

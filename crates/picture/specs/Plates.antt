@@ -11,7 +11,7 @@ use Rattle.state.specs.declared.Answer.{Answer}
 use Rattle.state.specs.declared.Answer.the-variants.{Done, Refused}
 use Rattle.state.specs.State.{Quad, Held, joined, reading}
 use Rattle.state.specs.Call.{Left}
-use Rattle.input.specs.Job.{Job}
+use Rattle.input.specs.Job.{Job, loopLimit, pairLimit}
 use Rattle.input.specs.Limit.{cornerLimit}
 use Rattle.rules.specs.Fan.{Box, box}
 use Rattle.shapes.specs.Shapes.{outlineText, tilesText, frontsText, nodesText, worst}
@@ -57,6 +57,6 @@ answerPicture j x = drawn j (x .answer) (x .held)
 
 -- what the code asks of an outline: it is no longer than a job's, and has the points of its loops
 pub record Few (c : List Float) (l : List ℕ) : Type 0 where
-  pub coords : length c ≤ 4096
-  pub loops : length l ≤ 16
+  pub coords : length c ≤ pairLimit * 2
+  pub loops : length l ≤ loopLimit
   pub points : sumOf l * 2 ≤ length c

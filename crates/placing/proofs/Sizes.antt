@@ -115,7 +115,7 @@ module _ (h cornerMargin : Float) (r : Ring) (hw : Within 1000000 h) (hc : T (cl
         (sub-upto 4194304 (lit≤ tt) (sideAt r i ⊖ m) m' (sub-upto 4194304 (lit≤ tt) (sideAt r i) m (within-upto 4194304 (sideAt r i) w) (margin-not-negative i)) (margin-not-negative (next (r .size) i)))
 
     -- the jth of k inner points, along the side
-    module _ (k j : ℕ) (few : k ≤ 2048) (jk : j < k) where
+    module _ (k j : ℕ) (few : k ≤ frontNodeLimit) (jk : j < k) where
       abbrev along : Float
       along = m ⊕ span h cornerMargin r i ⊗ (ofInt binary64 (pos j) ⊕ decimal 5 1) ⊘ ofInt binary64 (pos k)
 
@@ -142,7 +142,7 @@ module _ (h cornerMargin : Float) (r : Ring) (hw : Within 1000000 h) (hc : T (cl
                 (along-within along (b .y ⊖ a .y) (sideAt r i) 104194304 2000000 418777216 (lit≤ tt) (lit≤ tt) along-side (w .y) s y);
           }
 
-    inner-all : (k j : ℕ) → k ≤ 2048 → j ≤ k → lt (sideAt r i) (decimal 1 12) ≡ false → All 419777216 (innerPoints h cornerMargin r i k j)
+    inner-all : (k j : ℕ) → k ≤ frontNodeLimit → j ≤ k → lt (sideAt r i) (decimal 1 12) ≡ false → All 419777216 (innerPoints h cornerMargin r i k j)
     unfolding innerPoints
     inner-all k zero few jk long = all-none 419777216
     inner-all k (suc j) few jk long =
@@ -156,7 +156,7 @@ module _ (h cornerMargin : Float) (r : Ring) (hw : Within 1000000 h) (hc : T (cl
     pub whole : nodes * 2 ≡ length (placed h cornerMargin r k)
     pub all : All 419777216 (placed h cornerMargin r k)
 
-  side-all : (i : ℕ) → i < r .size → parts h cornerMargin r i ≤ 2048 → All 419777216 (innerPoints h cornerMargin r i (parts h cornerMargin r i) (placedOn h cornerMargin r i))
+  side-all : (i : ℕ) → i < r .size → parts h cornerMargin r i ≤ frontNodeLimit → All 419777216 (innerPoints h cornerMargin r i (parts h cornerMargin r i) (placedOn h cornerMargin r i))
   unfolding placedOn innerPoints le
   side-all i l few = go (le (sideAt r i) (decimal 1 12)) refl
     where
@@ -167,7 +167,7 @@ module _ (h cornerMargin : Float) (r : Ring) (hw : Within 1000000 h) (hc : T (cl
       go true e = all-none 419777216
       go false e = inner-all i l k k few (omega arith) (or-false (lt (sideAt r i) (decimal 1 12)) (eq (sideAt r i) (decimal 1 12)) e .0)
 
-  placed-all : planned h cornerMargin r ≤ 2048 → (k : ℕ) → k ≤ r .size → Placed k
+  placed-all : planned h cornerMargin r ≤ frontNodeLimit → (k : ℕ) → k ≤ r .size → Placed k
   unfolding placed
   placed-all few zero l = record { nodes = 0; whole = refl; all = all-none 419777216 }
   placed-all few (suc k) l =

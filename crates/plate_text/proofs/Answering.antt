@@ -8,12 +8,13 @@ use lib.Dec.{eqb, ltb}
 use lib.Ieee.{Float}
 use lib.ListN.{length}
 use borrow.Author.Tests.{lt-ltb}
+use Rattle.state.specs.Limits.{frontLimit, frontNodeLimit, pointsLength, quadsLength}
 use Rattle.state.specs.declared.Counts.{Counts}
 use Rattle.state.specs.declared.Answer.{Answer}
 use Rattle.state.specs.declared.Answer.the-variants.{Done, Refused}
 use Rattle.state.specs.State.{Held, Lengths, State, lengths, zeros}
 use Rattle.state.specs.Outcome.{Outcome, refused, gives, firstOf, test}
-use Rattle.state.specs.Call.{Left, held, lengthsOf, numberOf, jobLeft}
+use Rattle.state.specs.Call.{Left, held, lengthsOf, numberOf, jobLeft, lent}
 use Rattle.state.specs.Given.{wrongState}
 use Rattle.input.specs.declared.Options.{Options}
 use Rattle.input.specs.Defaults.{defaults}
@@ -24,7 +25,6 @@ use Rattle.rules.proofs.Demands as demands
 use Rattle.answer_text.specs.AnswerText.{answerText, refusedText}
 use Rattle.answer_text.specs.Fits.{SoundAnswer}
 use Rattle.answer_text.proofs.Pieces.{sound-answer}
-use Rattle.plate_text.specs.PaveText.{lent}
 
 -- ---- too many
 
@@ -53,13 +53,10 @@ refused-1 j l h = rw h
 
 -- it is that of the definition, and sound
 module _ (x : Left) (coords : List Float) (loops : List ℕ) (h : Float) (o : Options) (p q n l : ℕ) (call : x ≡ jobCall (job coords loops h o) (lengthsOf p q n l)) where
-  pub answer-is : o ≡ defaults → p ≡ 8192 → q ≡ 16384 → n ≡ 2048 → l ≡ 16 → x ≡ jobCall (job coords loops h defaults) lent
+  pub answer-is : o ≡ defaults → p ≡ pointsLength → q ≡ quadsLength → n ≡ frontNodeLimit → l ≡ frontLimit → x ≡ jobCall (job coords loops h defaults) lent
   answer-is d e f g k = call ∙ rw (d, e, f, g, k)
 
   pub answer-sound : lengths (x .held) ≡ lent → SoundAnswer x
   answer-sound e =
       sound-answer x e
       (λ (z : numberOf x ≡ 0). ap (λ (y : Left). wrongState (y .held)) call ∙ demands.demand-3 .acceptedBack (job coords loops h o) (lengthsOf p q n l) (ap numberOf (sym call) ∙ z))
-
-pub long : (p : List Float) (q n l : List ℕ) (c : Counts) → length p ≡ 8192 → length q ≡ 16384 → length n ≡ 2048 → length l ≡ 16 → lengths (held p q n l c) ≡ lent
-long p q n l c e f g h = rw (e, f, g, h)

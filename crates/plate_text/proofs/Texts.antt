@@ -12,6 +12,7 @@ use lib.IntN.{pos}
 use lib.ListN.{length, take, replicate, length-map, length-append, length-replicate}
 use lib.Seq.{sets}
 use borrow.Author.Tests.{ltb-true, ltb-false, lt-ltb, le-ltb}
+use Rattle.state.specs.Call.{lent}
 use Rattle.state.specs.State.{joined, padded}
 use Rattle.state.proofs.Stores.{sets-append, sets-all}
 use Rattle.input.specs.Job.{Job, job, loopLimit, pairLimit}
@@ -25,7 +26,7 @@ use Rattle.job_text.specs.Reading.{readJob}
 use Rattle.job_text.specs.Answers.{answerOf, tooMany, JobReadIs}
 use Rattle.job_text.proofs.Storing.{length-coordinates}
 use Rattle.answer_text.specs.AnswerText.{answerText, refusedText}
-use Rattle.plate_text.specs.PaveText.{lent, paveText, textRoom, texted, textCall}
+use Rattle.plate_text.specs.PaveText.{paveText, textRoom, texted, textCall}
 use Rattle.plate_text.proofs.Answering.{too-many-loops, too-many-pairs, refused-1}
 
 clash : {A : Type 0} → _≡_ {A = ℕ} 0 1 → A
@@ -63,7 +64,7 @@ neither : (a b : Bool) → (a || b) ≡ false → (a ≡ false) × (b ≡ false)
 neither true b e = let z : _≡_ {A = ℕ} 0 1 = cc in clash z
 neither false b e = (refl, e)
 
-few-of : (d : Drawing) → tooMany d ≡ false → (length (joined (loops d)) ≤ 2048) × (length (loops d) ≤ 16)
+few-of : (d : Drawing) → tooMany d ≡ false → (length (joined (loops d)) ≤ pairLimit) × (length (loops d) ≤ loopLimit)
 unfolding tooMany
 few-of d h =
     let b = neither (ltb loopLimit (length (loops d))) (ltb pairLimit (length (joined (loops d)))) h in
@@ -72,7 +73,7 @@ few-of d h =
 -- the job that was read
 pub record Found (t : List ℕ) (coords : List Float) (lengths : List ℕ) (size : Float) (pairs n : ℕ) : Type 0 where
   pub text : answerText (jobCall (job (take (pairs * 2) coords) (take n lengths) size defaults) lent) ≡ paveText t
-  pub few : (pairs ≤ 2048) × (n ≤ 16)
+  pub few : (pairs ≤ pairLimit) × (n ≤ loopLimit)
 
 module _ (t : List ℕ) (coords : List Float) (lengths : List ℕ) (r : JobRead) (is : JobReadIs t coords lengths r) where
   pub no-job : r ≡ jobRead.Unreadable → refusedText 11 ≡ paveText t

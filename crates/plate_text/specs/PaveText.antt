@@ -5,16 +5,12 @@ use mathlib.Core.List.{List}
 use mathlib.Core.Option.{Option, Option·elim}
 use lib.Dec.{ltb}
 use lib.ListN as lists
-use Rattle.state.specs.State.{Lengths, padded}
-use Rattle.state.specs.Call.{lengthsOf}
+use Rattle.state.specs.State.{padded}
+use Rattle.state.specs.Call.{lent}
 use Rattle.rules.specs.Calls.{jobCall}
 use Rattle.job_text.specs.Drawing.{Drawing, jobOf}
 use Rattle.job_text.specs.Reading.{readJob}
 use Rattle.answer_text.specs.AnswerText.{answerText, refusedText}
-
--- document 01's result buffers
-abbrev pub lent : Lengths
-lent = lengthsOf 8192 16384 2048 16
 
 -- Number 11 for a text that is no job's, which comes before every other number; otherwise the answer of the job that it is.
 unfoldable pub paveText : List ℕ → List ℕ

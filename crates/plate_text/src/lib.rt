@@ -2,13 +2,14 @@
 ghost use mathlib.Core.Path.{_≡_};
 ghost use Prim.Native.Nat.{_≤_};
 ghost use lib.ListN.{length};
+ghost use Rattle.state.specs.Call.{lent};
 ghost use Rattle.input.specs.Job as inputs;
 ghost use Rattle.input.specs.Defaults as options;
 ghost use Rattle.rules.specs.Calls.{jobCall};
 ghost use Rattle.text.specs.Putting.{Put};
 ghost use Rattle.answer_text.specs.AnswerText.{answerText};
 ghost use Rattle.answer_text.specs.Fits.{textLimit};
-ghost use Rattle.plate_text.specs.PaveText.{lent, paveText, textCall, texted, textRoom};
+ghost use Rattle.plate_text.specs.PaveText.{paveText, textCall, texted, textRoom};
 use answer_text::put_answer;
 use answer_text::put_refused;
 use job_text::JobRead;

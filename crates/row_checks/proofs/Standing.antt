@@ -12,6 +12,7 @@ use Rattle.geometry.specs.Rings.{Ring, ringOf, nodeRing}
 use Rattle.geometry.specs.Domain.{rings}
 use Rattle.input.specs.Job.{Job}
 use Rattle.input.specs.Limit.{cornerLimit}
+use Rattle.state.specs.Limits.{pointLimit, quadLimit}
 use Rattle.state.specs.Outcome.{firstOf}
 use Rattle.state.proofs.Basics.{zero-one}
 use Rattle.rules.specs.Simple.{isSimple}
@@ -91,17 +92,17 @@ module _ (j : Job) (pts : List Float) (fronts : List (List ℕ)) (quads li n : �
       rest-fails s = rw (p, le-leb 6 (length (getD fronts li [])) (rw hn at l), ← (rw hn at hr), s)
 
       module _ (s : restStands j pts fronts li row ≡ true) where
-        pub too-many-points : 4096 < length pts / 2 + n → 21 ≡ rowNumber j pts fronts quads li
+        pub too-many-points : pointLimit < length pts / 2 + n → 21 ≡ rowNumber j pts fronts quads li
         unfolding rowNumber rowStands firstOf
-        too-many-points g = rw (p, le-leb 6 (length (getD fronts li [])) (rw hn at l), ← (rw hn at hr), s, lt-ltb 4096 (length pts / 2 + length (getD fronts li [])) (rw hn at g))
+        too-many-points g = rw (p, le-leb 6 (length (getD fronts li [])) (rw hn at l), ← (rw hn at hr), s, lt-ltb pointLimit (length pts / 2 + length (getD fronts li [])) (rw hn at g))
 
-        pub too-many-quads : length pts / 2 + n ≤ 4096 → 4096 < quads + n → 21 ≡ rowNumber j pts fronts quads li
+        pub too-many-quads : length pts / 2 + n ≤ pointLimit → quadLimit < quads + n → 21 ≡ rowNumber j pts fronts quads li
         unfolding rowNumber rowStands firstOf
-        too-many-quads g k = rw (p, le-leb 6 (length (getD fronts li [])) (rw hn at l), ← (rw hn at hr), s, le-ltb 4096 (length pts / 2 + length (getD fronts li [])) (rw hn at g), lt-ltb 4096 (quads + length (getD fronts li [])) (rw hn at k))
+        too-many-quads g k = rw (p, le-leb 6 (length (getD fronts li [])) (rw hn at l), ← (rw hn at hr), s, le-ltb pointLimit (length pts / 2 + length (getD fronts li [])) (rw hn at g), lt-ltb quadLimit (quads + length (getD fronts li [])) (rw hn at k))
 
-        pub stands : length pts / 2 + n ≤ 4096 → quads + n ≤ 4096 → 0 ≡ rowNumber j pts fronts quads li
+        pub stands : length pts / 2 + n ≤ pointLimit → quads + n ≤ quadLimit → 0 ≡ rowNumber j pts fronts quads li
         unfolding rowNumber rowStands firstOf
-        stands g k = rw (p, le-leb 6 (length (getD fronts li [])) (rw hn at l), ← (rw hn at hr), s, le-ltb 4096 (length pts / 2 + length (getD fronts li [])) (rw hn at g), le-ltb 4096 (quads + length (getD fronts li [])) (rw hn at k))
+        stands g k = rw (p, le-leb 6 (length (getD fronts li [])) (rw hn at l), ← (rw hn at hr), s, le-ltb pointLimit (length pts / 2 + length (getD fronts li [])) (rw hn at g), le-ltb quadLimit (quads + length (getD fronts li [])) (rw hn at k))
 
 -- ---- what the projection's answer says
 

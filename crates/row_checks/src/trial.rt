@@ -9,6 +9,7 @@ ghost use Rattle.row_checks.specs.Candidate as candidates;
 ghost use Rattle.rules.specs.Checks.{allProject, newPoints};
 ghost use Rattle.rules.specs.Row.{restStands, rowNumber};
 ghost use Rattle.geometry.specs.Domain.{sumOf};
+ghost use Rattle.state.specs.Limits.{frontLimit, quadLimit};
 ghost use Rattle.state.specs.State.{cut};
 ghost use Rattle.input.specs.Job.{job};
 use crate::Tried;
@@ -111,7 +112,7 @@ pub fn try_row(
     li: usize,
     row: &mut [f64],
 ) -> Tried
-    requires { ⌜ (li < length (now lengths)) × (length (now lengths) ≤ 16) × (quads ≤ 4096) ⌝ }
+    requires { ⌜ (li < length (now lengths)) × (length (now lengths) ≤ frontLimit) × (quads ≤ quadLimit) ⌝ }
     requires { ⌜ (sumOf (now «loop_lengths») * 2 ≤ length (now coords)) × (sumOf (now lengths) ≤ length (now «front_nodes»)) × (getD (now lengths) li 0 * 2 ≤ length (now row)) × (length (now points) % 2 ≡ 0) ⌝ }
     requires { ⌜ ((i : ℕ) → i < sumOf (now lengths) → getD (now «front_nodes») i 0 * 2 + 1 < length (now points)) ⌝ }
     ensures { λ r. ⌜ r ≡ candidates.tried (rowNumber (job (now (coords .entry)) (now («loop_lengths» .entry)) h options) (now (points .entry)) (cut (now (lengths .entry)) (now («front_nodes» .entry))) quads li) ⌝ }

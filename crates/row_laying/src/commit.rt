@@ -4,6 +4,7 @@ ghost use mathlib.Core.List.{map};
 ghost use Prim.Native.Nat.{_*_, _+_, _≤_};
 ghost use lib.ListN.{length};
 ghost use lib.Seq.{sets};
+ghost use Rattle.state.specs.Limits.{pointLimit};
 ghost use Rattle.state.specs.State.{joined, quadNodes};
 ghost use Rattle.rules.specs.Checks.{rowQuads};
 use state::narrow;
@@ -11,7 +12,7 @@ use state::put_quad;
 
 // The quads of a row on the nodes `old`, from place `at` on; the new nodes are numbered from `first`.
 pub fn put_row_quads(quads: &mut [u16], at: usize, old: &[u16], first: usize)
-    requires { ⌜ (at + length (now old) * 4 ≤ length (now quads)) × (first + length (now old) ≤ 4096) ⌝ }
+    requires { ⌜ (at + length (now old) * 4 ≤ length (now quads)) × (first + length (now old) ≤ pointLimit) ⌝ }
     ensures { λ _. ⌜ now (quads .exit) ≡ sets (now (quads .entry)) at (joined (map quadNodes (rowQuads (now (old .entry)) first (length (now (old .entry)))))) ⌝ }
 {
     let n = old.len();

@@ -102,7 +102,7 @@ module _ (loops : List (List ℕ)) (s : State) (stands : Stands loops s) where
   unfolding wrongCounts written
   counts-right =
       rw (
-        take-at (map length (s .fronts)) (replicate (16 - length (map length (s .fronts))) 0) (length (s .fronts)) (length-map (s .fronts) length),
+        take-at (map length (s .fronts)) (replicate (frontLimit - length (map length (s .fronts))) 0) (length (s .fronts)) (length-map (s .fronts) length),
         total-lengths (s .fronts),
         le-ltb pointLimit (nodes s) (allowed .points),
         le-ltb quadLimit (length (s .quads)) (allowed .quads),

@@ -9,6 +9,7 @@ use lib.Dec.{lit≤}
 use lib.ListN.{length, take, length-append}
 use lib.Seq.{take-at}
 use Rattle.float.specs.Helpers.{decimal}
+use Rattle.state.specs.Limits.{pointsLength, quadsLength}
 use Rattle.state.specs.State.{State, Held, Lengths, Quad, nodes, joined, padded, written, reading}
 use Rattle.state.specs.Coordinates.{wrongCoordinate}
 use Rattle.state.specs.Given.{wrongState}
@@ -128,10 +129,10 @@ first-of xs more rest n e = rw (append-assoc xs more rest) (take-at xs (more ++ 
 -- two states that the rows left, one going on from the other, after their closings
 module _ (s t : State) (adv : Advances s t) (all : s .laid ≡ length (s .quads)) (even : length (s .points) % 2 ≡ 0) where
   -- what stands behind the written points and quads of each
-  points-first : take (nodes s * 2) (padded 8192 (decimal 0 0) (t .points)) ≡ s .points
+  points-first : take (nodes s * 2) (padded pointsLength (decimal 0 0) (t .points)) ≡ s .points
   points-first = rw (adv .pointsAre) (first-of (s .points) (adv .morePoints) _ (nodes s * 2) (omega arith))
 
-  quads-first : (added : List Quad) → take (s .laid * 4) (padded 16384 0 (numbers (t .quads ++ added))) ≡ numbers (s .quads)
+  quads-first : (added : List Quad) → take (s .laid * 4) (padded quadsLength 0 (numbers (t .quads ++ added))) ≡ numbers (s .quads)
   quads-first added = rw (all, adv .quadsAre, append-assoc (s .quads) (adv .moreQuads) added) (first-quads (s .quads) (adv .moreQuads ++ added) _)
 
   closed-begins : (limit : Float) → Begins (written (closed limit s)) (written (closed limit t))
@@ -140,7 +141,7 @@ module _ (s t : State) (adv : Advances s t) (all : s .laid ≡ length (s .quads)
     fewerPoints = rw (adv .pointsAre) (omega (arith, length-append (s .points) (adv .morePoints)));
     fewerLaid = rw (all, adv .laidAll all, adv .quadsAre) (omega (arith, length-append (s .quads) (adv .moreQuads)));
     samePoints = take-at (s .points) _ (nodes s * 2) (omega arith) ∙ sym points-first;
-    sameQuads = ap (λ n. take (n * 4) (padded 16384 0 (numbers (s .quads ++ joined (map (closure limit (s .points)) (s .fronts)))))) all
+    sameQuads = ap (λ n. take (n * 4) (padded quadsLength 0 (numbers (s .quads ++ joined (map (closure limit (s .points)) (s .fronts)))))) all
         ∙ first-quads (s .quads) (joined (map (closure limit (s .points)) (s .fronts))) _
         ∙ sym (quads-first (joined (map (closure limit (t .points)) (t .fronts))));
   }

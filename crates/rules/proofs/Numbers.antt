@@ -9,6 +9,7 @@ use lib.Ieee.{Float}
 use borrow.Author.Tests.{eqb-true}
 use Rattle.geometry.specs.Rings.{Ring}
 use Rattle.geometry.specs.Domain.{rings}
+use Rattle.state.specs.Limits.{quadLimit}
 use Rattle.state.specs.State.{State, Lengths}
 use Rattle.input.specs.Job.{Job, inputNumber}
 use Rattle.state.specs.Outcome.{Outcome, refused, gives, Test, firstOf}
@@ -177,7 +178,7 @@ passes-in j (suc n) s = go (onePass j s) (rows-in j (passOrder s) (begun s)) (λ
 
 pub closings-in : (limit : Float) (s : State) → RefusedIn (21 ∷ []) (closings limit s)
 unfolding closings
-closings-in limit s = pick (ltb 4096 (length (closed limit s .quads)))
+closings-in limit s = pick (ltb quadLimit (length (closed limit s .quads)))
   where
     pick : (b : Bool) → RefusedIn (21 ∷ []) (cond b (refused 21) (gives (closed limit s)))
     pick true = refused-in State (21 ∷ []) 21 has21

@@ -8,6 +8,7 @@ use borrow.Author.Tests.{leb-true, ltb-false, lt-leb, leb-false}
 use lib.Dec.{eqb, leb, ltb}
 use lib.ListN.{length, getD, take, set, replicate, length-append, length-replicate, length-map, length-set, List·getD-append}
 use lib.Seq.{take-at, length-take-le, getD-take}
+use Rattle.state.specs.Limits.{frontLimit, frontNodeLimit, pointLimit, pointsLength, quadLimit, quadsLength}
 use Rattle.state.proofs.Basics.{or-false, zero-one}
 use Rattle.float.specs.Helpers.{decimal}
 use Rattle.geometry.specs.Domain.{sumOf}
@@ -21,10 +22,10 @@ use Rattle.state.proofs.Reading.{Counted, sound-counted, fits, nodes-re
 
 pub record Fit (s : State) : Type 0 where
   pub even : nodes s * 2 ≡ length (s .points)
-  pub points : nodes s ≤ 4096
-  pub quads : length (s .quads) ≤ 4096
-  pub fronts : length (s .fronts) ≤ 16
-  pub frontNodes : length (joined (s .fronts)) ≤ 2048
+  pub points : nodes s ≤ pointLimit
+  pub quads : length (s .quads) ≤ quadLimit
+  pub fronts : length (s .fronts) ≤ frontLimit
+  pub frontNodes : length (joined (s .fronts)) ≤ frontNodeLimit
   -- no front node is beyond the points
   pub below : someFrom (nodes s) (joined (s .fronts)) ≡ false
   pub rowQuads : s .rowQuads ≤ length (s .quads)
@@ -43,7 +44,7 @@ total-lengths (f ∷ fs) = ap (λ k. length f + k) (total-lengths fs) ∙ sym (l
 module _ (s : State) (fit : Fit s) where
   sizes-written : sizesOf (written s) ≡ map length (s .fronts)
   unfolding written
-  sizes-written = take-at (map length (s .fronts)) (replicate (16 - length (map length (s .fronts))) 0) (length (s .fronts)) (length-map (s .fronts) length)
+  sizes-written = take-at (map length (s .fronts)) (replicate (frontLimit - length (map length (s .fronts))) 0) (length (s .fronts)) (length-map (s .fronts) length)
 
   total-written : sumOf (sizesOf (written s)) ≡ length (joined (s .fronts))
   total-written = rw sizes-written (total-lengths (s .fronts))
@@ -51,7 +52,7 @@ module _ (s : State) (fit : Fit s) where
   below-written : (i : ℕ) → i < length (joined (s .fronts)) → getD (written s .frontNodes) i 0 < nodes s
   unfolding written
   below-written i h =
-      rw (List·getD-append (joined (s .fronts)) (replicate (2048 - length (joined (s .fronts))) 0) 0 i h) (all-below (nodes s) (joined (s .fronts)) (fit .below) i h)
+      rw (List·getD-append (joined (s .fronts)) (replicate (frontNodeLimit - length (joined (s .fronts))) 0) 0 i h) (all-below (nodes s) (joined (s .fronts)) (fit .below) i h)
 
   pub sound-written : Sound (written s)
   unfolding written
@@ -60,10 +61,10 @@ module _ (s : State) (fit : Fit s) where
       let p = fit .points in
       let q = fit .quads in
       record {
-        pointsLong = padded-long 8192 (decimal 0 0) (s .points) (omega arith);
-        quadsLong = padded-long 16384 0 (joined (map quadNodes (s .quads))) (let l = length-numbers (s .quads) in omega arith);
-        frontNodesLong = padded-long 2048 0 (joined (s .fronts)) (fit .frontNodes);
-        frontLengthsLong = padded-long 16 0 (map length (s .fronts)) (let l = length-map (s .fronts) length in let f = fit .fronts in omega arith);
+        pointsLong = padded-long pointsLength (decimal 0 0) (s .points) (omega arith);
+        quadsLong = padded-long quadsLength 0 (joined (map quadNodes (s .quads))) (let l = length-numbers (s .quads) in omega arith);
+        frontNodesLong = padded-long frontNodeLimit 0 (joined (s .fronts)) (fit .frontNodes);
+        frontLengthsLong = padded-long frontLimit 0 (map length (s .fronts)) (let l = length-map (s .fronts) length in let f = fit .fronts in omega arith);
         points = p;
         quads = q;
         fronts = fit .fronts;

@@ -6,6 +6,7 @@ use native.Mathlib.Omega.{arith}
 use lib.ListN.{length, take, drop}
 use lib.Seq.{length-take-le}
 use Rattle.geometry.specs.Domain.{sumOf}
+use Rattle.state.specs.Limits.{frontLimit, frontNodeLimit, pointLimit, pointsLength, quadsLength, quadLimit}
 use Rattle.state.specs.State.{Held, joined, quadsOf, nodes, reading}
 use Rattle.state.specs.Sound.{Sound, sizesOf}
 use Rattle.state.proofs.Cutting.{joined-cut, length-cut, lengths-cut}
@@ -43,14 +44,14 @@ length-quadsOf zero xs = refl
 length-quadsOf (suc n) xs = ap suc (length-quadsOf n (drop 4 xs))
 
 pub record Counted (b : Held) : Type 0 where
-  pub pointsLong : length (b .points) ≡ 8192
-  pub quadsLong : length (b .quads) ≡ 16384
-  pub frontNodesLong : length (b .frontNodes) ≡ 2048
-  pub frontLengthsLong : length (b .frontLengths) ≡ 16
-  pub points : b .counts .points ≤ 4096
-  pub quads : b .counts .quads ≤ 4096
-  pub fronts : b .counts .fronts ≤ 16
-  pub frontNodes : sumOf (sizesOf b) ≤ 2048
+  pub pointsLong : length (b .points) ≡ pointsLength
+  pub quadsLong : length (b .quads) ≡ quadsLength
+  pub frontNodesLong : length (b .frontNodes) ≡ frontNodeLimit
+  pub frontLengthsLong : length (b .frontLengths) ≡ frontLimit
+  pub points : b .counts .points ≤ pointLimit
+  pub quads : b .counts .quads ≤ quadLimit
+  pub fronts : b .counts .fronts ≤ frontLimit
+  pub frontNodes : sumOf (sizesOf b) ≤ frontNodeLimit
 
 pub sound-counted : (b : Held) → Sound b → Counted b
 sound-counted b s = record {

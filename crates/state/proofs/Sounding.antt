@@ -6,12 +6,15 @@ use Prim.Native.Nat.{ℕ, _+_, _-_, _*_, _/_, _<_, _≤_}
 use native.Mathlib.Omega.{arith}
 use borrow.Author.Tests.{lt-ltb, le-ltb, eq-eqb, ne-eqb, ltb-true, ltb-false, eqb-true, not-false}
 use lib.Dec.{eqb, ltb}
+use lib.Ieee.{Float}
 use lib.ListN.{length, getD, take}
 use lib.Seq.{length-take-le, getD-take}
 use Rattle.float.specs.Helpers.{decimal}
 use Rattle.geometry.specs.Domain.{sumOf}
+use Rattle.state.specs.Limits.{frontLimit, frontNodeLimit, pointsLength, quadsLength}
+use Rattle.state.specs.declared.Counts.{Counts}
 use Rattle.state.specs.State.{Held, Lengths, lengths, reading}
-use Rattle.state.specs.Call.{lengthsOf}
+use Rattle.state.specs.Call.{held, lent}
 use Rattle.state.specs.Coordinates.{wrongCoordinate}
 use Rattle.state.proofs.Basics.{or-false}
 use Rattle.state.specs.Given.{someFrom, repeated, wrongCounts, wrongValues, wrongState}
@@ -54,7 +57,11 @@ or-group false true c d e f = refl
 or-group false false true d e f = refl
 or-group false false false d e f = refl
 
-pub counted : (b : Held) → lengths b ≡ lengthsOf 8192 16384 2048 16 → wrongCounts b ≡ false → Counted b
+-- buffers that are as long as document 01 has them
+pub lent-lengths : (p : List Float) (q n l : List ℕ) (c : Counts) → length p ≡ pointsLength → length q ≡ quadsLength → length n ≡ frontNodeLimit → length l ≡ frontLimit → lengths (held p q n l c) ≡ lent
+lent-lengths p q n l c e f g h = rw (e, f, g, h)
+
+pub counted : (b : Held) → lengths b ≡ lent → wrongCounts b ≡ false → Counted b
 unfolding wrongCounts
 counted b l w =
     let small = or-false _ _ w in
@@ -117,7 +124,7 @@ by-counts b t e h = rw (← e, h)
 below-of : (n total : ℕ) (xs : List ℕ) → total ≤ length xs → someFrom n (take total xs) ≡ false → (i : ℕ) → i < total → getD xs i 0 < n
 below-of n total xs h w i l = rw (getD-take total xs i 0 l) at (all-below n (take total xs) w i (rw (length-take-le total xs h) l))
 
-pub sound : (b : Held) → lengths b ≡ lengthsOf 8192 16384 2048 16 → wrongState b ≡ false → Sound b
+pub sound : (b : Held) → lengths b ≡ lent → wrongState b ≡ false → Sound b
 unfolding wrongState
 sound b l w =
     let w1 = or-false (wrongCounts b) (wrongValues (reading b)) w in

@@ -7,6 +7,7 @@ use lib.ListN.{length, getD, take, drop, replicate, length-map}
 use lib.Seq.{take-at, take-append-seam, drop-append-seam}
 use lib.Ieee.{Float}
 use Rattle.float.specs.Helpers.{decimal}
+use Rattle.state.specs.Limits.{frontLimit, frontNodeLimit, pointsLength, quadsLength}
 use Rattle.state.specs.State.{State, Quad, quad, quadNodes, nodes, joined, padded, written, quadsOf, cut, reading}
 
 pub quads-back : (qs : List Quad) (rest : List ℕ) → quadsOf (length qs) (joined (map quadNodes qs) ++ rest) ≡ qs
@@ -25,8 +26,8 @@ pub reading-written : (s : State) → length (s .points) % 2 ≡ 0 → reading (
 unfolding reading written
 reading-written s even =
     rw (
-      take-at (s .points) (replicate (8192 - length (s .points)) (decimal 0 0)) (nodes s * 2) (omega arith),
-      quads-back (s .quads) (replicate (16384 - length (joined (map quadNodes (s .quads)))) 0),
-      take-at (map length (s .fronts)) (replicate (16 - length (map length (s .fronts))) 0) (length (s .fronts)) (length-map (s .fronts) length),
-      cut-back (s .fronts) (replicate (2048 - length (joined (s .fronts))) 0),
+      take-at (s .points) (replicate (pointsLength - length (s .points)) (decimal 0 0)) (nodes s * 2) (omega arith),
+      quads-back (s .quads) (replicate (quadsLength - length (joined (map quadNodes (s .quads)))) 0),
+      take-at (map length (s .fronts)) (replicate (frontLimit - length (map length (s .fronts))) 0) (length (s .fronts)) (length-map (s .fronts) length),
+      cut-back (s .fronts) (replicate (frontNodeLimit - length (joined (s .fronts))) 0),
     )

@@ -8,6 +8,7 @@ use lib.ListN.{length, getD, take, drop, replicate, drop-of-length-le}
 use lib.Seq.{drop-cons, length-take-le}
 use Rattle.float.specs.Helpers.{decimal}
 use Rattle.geometry.specs.Domain.{sumOf}
+use Rattle.state.specs.Limits.{frontLimit, frontNodeLimit, pointsLength, quadsLength}
 use Rattle.state.specs.declared.Counts.{Counts}
 use Rattle.state.specs.State.{Held, padded, written, reading}
 use Rattle.state.specs.Call.{held}
@@ -26,21 +27,21 @@ module _ (b : Held) (sound : Sound b) where
   abbrev counted : Counted b
   counted = sound-counted b sound
 
-  pub points-held : written (reading b) .points ≡ padded 8192 (decimal 0 0) (take (b .counts .points * 2) (b .points))
+  pub points-held : written (reading b) .points ≡ padded pointsLength (decimal 0 0) (take (b .counts .points * 2) (b .points))
   unfolding written reading
   points-held = refl
 
-  pub quads-held : written (reading b) .quads ≡ padded 16384 0 (take (b .counts .quads * 4) (b .quads))
+  pub quads-held : written (reading b) .quads ≡ padded quadsLength 0 (take (b .counts .quads * 4) (b .quads))
   unfolding written
-  quads-held = ap (padded 16384 0) (quad-nodes-read b counted)
+  quads-held = ap (padded quadsLength 0) (quad-nodes-read b counted)
 
-  pub nodes-held : written (reading b) .frontNodes ≡ padded 2048 0 (take (sumOf (sizesOf b)) (b .frontNodes))
+  pub nodes-held : written (reading b) .frontNodes ≡ padded frontNodeLimit 0 (take (sumOf (sizesOf b)) (b .frontNodes))
   unfolding written
-  nodes-held = ap (padded 2048 0) (front-nodes-read b counted)
+  nodes-held = ap (padded frontNodeLimit 0) (front-nodes-read b counted)
 
-  pub lengths-held : written (reading b) .frontLengths ≡ padded 16 0 (sizesOf b)
+  pub lengths-held : written (reading b) .frontLengths ≡ padded frontLimit 0 (sizesOf b)
   unfolding written
-  lengths-held = ap (padded 16 0) (sizes-read b counted)
+  lengths-held = ap (padded frontLimit 0) (sizes-read b counted)
 
   others-held : (reading b .rowQuads ≡ b .counts .«row_quads») × (reading b .coreQuads ≡ b .counts .«core_quads») × (reading b .rowRounds ≡ b .counts .«row_rounds»)
       × (reading b .passes ≡ b .counts .«passes_begun») × (reading b .laid ≡ b .counts .laid)
@@ -62,10 +63,10 @@ module _ (b : Held) (sound : Sound b) where
       let p = sound .points in
       let q = sound .quads in
       same-held
-      (hP ∙ cleared-from (decimal 0 0) (b .points) 8192 (b .counts .points * 2) (sound .pointsLong) (omega arith) ∙ sym points-held)
-      (hQ ∙ cleared-from 0 (b .quads) 16384 (b .counts .quads * 4) (sound .quadsLong) (omega arith) ∙ sym quads-held)
-      (hN ∙ cleared-from 0 (b .frontNodes) 2048 (sumOf (sizesOf b)) (sound .frontNodesLong) (sound .frontNodes) ∙ sym nodes-held)
-      (hL ∙ cleared-from 0 (b .frontLengths) 16 (b .counts .fronts) (sound .frontLengthsLong) (sound .fronts) ∙ sym lengths-held)
+      (hP ∙ cleared-from (decimal 0 0) (b .points) pointsLength (b .counts .points * 2) (sound .pointsLong) (omega arith) ∙ sym points-held)
+      (hQ ∙ cleared-from 0 (b .quads) quadsLength (b .counts .quads * 4) (sound .quadsLong) (omega arith) ∙ sym quads-held)
+      (hN ∙ cleared-from 0 (b .frontNodes) frontNodeLimit (sumOf (sizesOf b)) (sound .frontNodesLong) (sound .frontNodes) ∙ sym nodes-held)
+      (hL ∙ cleared-from 0 (b .frontLengths) frontLimit (b .counts .fronts) (sound .frontLengthsLong) (sound .fronts) ∙ sym lengths-held)
       counts-held
 
   -- ---- buffers c with zeros behind the state of b: sound and clean

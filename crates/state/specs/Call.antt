@@ -4,6 +4,7 @@ use mathlib.Core.Bool.{cond}
 use mathlib.Core.List.{List, [], _∷_}
 use lib.Dec.{eqb}
 use lib.Ieee.{Float}
+use Rattle.state.specs.Limits.{frontLimit, frontNodeLimit, pointsLength, quadsLength}
 use Rattle.state.specs.declared.Counts.{Counts}
 use Rattle.state.specs.declared.Answer.{Answer}
 use Rattle.state.specs.declared.Answer.the-variants.{Done, Refused}
@@ -18,6 +19,10 @@ held p q n l c = record { points = p; quads = q; frontNodes = n; frontLengths = 
 
 abbrev pub lengthsOf : ℕ → ℕ → ℕ → ℕ → Lengths
 lengthsOf p q n l = record { points = p; quads = q; frontNodes = n; frontLengths = l }
+
+-- the lengths of document 01's result buffers
+abbrev pub lent : Lengths
+lent = lengthsOf pointsLength quadsLength frontNodeLimit frontLimit
 
 -- what a call leaves: its answer, the whole content of each buffer, and the counts
 pub record Left : Type 0 where

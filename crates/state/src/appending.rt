@@ -4,6 +4,7 @@ ghost use mathlib.Core.List.{[], _∷_};
 ghost use Prim.Native.Nat.{_+_, _<_, _≤_};
 ghost use lib.ListN.{length};
 ghost use lib.Seq.{sets};
+ghost use Rattle.state.specs.Limits.{pointLimit};
 ghost use Rattle.state.specs.State.{numbered};
 
 pub fn narrow(n: usize) -> u16
@@ -36,7 +37,7 @@ pub fn put_quad(quads: &mut [u16], at: usize, a: u16, b: u16, c: u16, d: u16)
 
 // The nodes from place `start` on become `n` numbers from `first` on.
 pub fn put_numbers(nodes: &mut [u16], start: usize, n: usize, first: usize)
-    requires { ⌜ (start + n ≤ length (now nodes)) × (first + n ≤ 4096) ⌝ }
+    requires { ⌜ (start + n ≤ length (now nodes)) × (first + n ≤ pointLimit) ⌝ }
     ensures { λ _. ⌜ now (nodes .exit) ≡ sets (now (nodes .entry)) start (numbered first n) ⌝ }
 {
     for i in 0..n {

@@ -2,13 +2,14 @@
 ghost use mathlib.Core.Path.{_≡_};
 ghost use Prim.Native.Nat.{_+_, _<_, _≤_};
 ghost use lib.ListN.{drop, getD, length, take};
+ghost use Rattle.state.specs.Limits.{frontLimit};
 ghost use Rattle.geometry.specs.Domain.{sumOf};
 use crate::Front;
 use geometry::wide;
 
 // The sum of at most 16 lengths, of loops or of fronts.
 pub fn sum_of(lengths: &[u16]) -> usize
-    requires { ⌜ length (now lengths) ≤ 16 ⌝ }
+    requires { ⌜ length (now lengths) ≤ frontLimit ⌝ }
     ensures { λ r. ⌜ r ≡ sumOf (now (lengths .entry)) ⌝ }
 {
     let mut sum = 0usize;
@@ -22,7 +23,7 @@ pub fn sum_of(lengths: &[u16]) -> usize
 
 // The place of front `li` among the nodes of all fronts.
 pub fn front_at(lengths: &[u16], li: usize) -> Front
-    requires { ⌜ (li < length (now lengths)) × (length (now lengths) ≤ 16) ⌝ }
+    requires { ⌜ (li < length (now lengths)) × (length (now lengths) ≤ frontLimit) ⌝ }
     ensures { λ r. ⌜ (r .start ≡ sumOf (take li (now (lengths .entry)))) × (r .len ≡ getD (now (lengths .entry)) li 0) ⌝ }
 {
     let start = sum_of(&lengths[..li]);

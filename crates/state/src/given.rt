@@ -6,8 +6,9 @@ ghost use Prim.Native.Nat.{ℕ, _*_, _+_, _<_, _≤_};
 ghost use lib.Dec.{eqb, leb, ltb};
 ghost use lib.Ieee.{Float};
 ghost use lib.ListN.{getD, length, replicate};
+ghost use Rattle.state.specs.Limits.{frontLimit, pointLimit};
 ghost use Rattle.state.specs.State.{lengths};
-ghost use Rattle.state.specs.Call.{held, lengthsOf};
+ghost use Rattle.state.specs.Call.{held, lent};
 ghost use Rattle.state.specs.Given as givens;
 use crate::Counts;
 use crate::coordinates::wrong_coordinate;
@@ -48,7 +49,7 @@ fn repeats_by(met: &mut [bool], nodes: &[u16]) -> bool
 
 // The same for numbers below `n`. Most states have few points, and fewer marks are made sooner.
 fn repeats(n: usize, nodes: &[u16]) -> bool
-    requires { ⌜ (n ≤ 4096) × ((i : ℕ) → i < length (now nodes) → getD (now nodes) i 0 < n) ⌝ }
+    requires { ⌜ (n ≤ pointLimit) × ((i : ℕ) → i < length (now nodes) → getD (now nodes) i 0 < n) ⌝ }
     ensures { λ r. ⌜ r ≡ givens.repeated (now (nodes .entry)) ⌝ }
 {
     if n <= 256 {
@@ -61,7 +62,7 @@ fn repeats(n: usize, nodes: &[u16]) -> bool
 
 // A node number of a quad or a front is not below the `n` points, or a front node is repeated.
 fn wrong_nodes(n: usize, quads: &[u16], nodes: &[u16]) -> bool
-    requires { ⌜ n ≤ 4096 ⌝ }
+    requires { ⌜ n ≤ pointLimit ⌝ }
     ensures { λ r. ⌜ r ≡ (givens.someFrom n (now (quads .entry) ++ now (nodes .entry)) || givens.repeated (now (nodes .entry))) ⌝ }
 {
     if some_number(n, false, quads) {
@@ -91,7 +92,7 @@ fn wrong_sums(counts: Counts) -> bool
 
 // Counts pass their limits, or a front has under 3 nodes.
 fn wrong_counts(front_lengths: &[u16], counts: Counts) -> bool
-    requires { ⌜ length (now «front_lengths») ≡ 16 ⌝ }
+    requires { ⌜ length (now «front_lengths») ≡ frontLimit ⌝ }
     ensures { λ r. ⌜ ((p : List Float) (q n : List ℕ) → r ≡ givens.wrongCounts (held p q n (now («front_lengths» .entry)) counts)) ⌝ }
 {
     if 4096 < counts.points {
@@ -118,7 +119,7 @@ pub fn wrong_state(
     front_lengths: &[u16],
     counts: Counts,
 ) -> bool
-    requires { ⌜ lengths (held (now points) (now quads) (now «front_nodes») (now «front_lengths») counts) ≡ lengthsOf 8192 16384 2048 16 ⌝ }
+    requires { ⌜ lengths (held (now points) (now quads) (now «front_nodes») (now «front_lengths») counts) ≡ lent ⌝ }
     ensures { λ r. ⌜ r ≡ givens.wrongState (held (now (points .entry)) (now (quads .entry)) (now («front_nodes» .entry)) (now («front_lengths» .entry)) counts) ⌝ }
 {
     if wrong_counts(front_lengths, counts) {

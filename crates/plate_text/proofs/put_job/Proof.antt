@@ -1,11 +1,12 @@
 use mathlib.Core.Path.{refl, ap}
 use borrow.Author.Needs.{needs}
+use Rattle.state.proofs.Sounding.{lent-lengths}
 use Rattle.state.specs.State.{noCounts}
 use Rattle.state.specs.Call.{held, left, answerCounts}
 use Rattle.text.specs.Putting.{Put}
 use Rattle.answer_text.specs.AnswerText.{answerText}
 use Rattle.text.proofs.Midst.{put-same}
-use Rattle.plate_text.proofs.Answering.{answer-is, answer-sound, long}
+use Rattle.plate_text.proofs.Answering.{answer-is, answer-sound}
 use Rattle.plate_text.proofs.put_job.Statement.{statement}
 use Rattle.plate_text.proofs.put_job.Tie as tie
 
@@ -45,7 +46,7 @@ put-answer-requires c κs =
     let last = at-job .job .last in (
       search needs,
       answer-sound _ _ _ _ _ _ _ _ _ (at-job .job .ensures)
-          (long (last .1 .1 .1 .1 .0) (last .1 .1 .1 .1 .1 .0) (last .1 .1 .1 .1 .1 .1 .0) (last .1 .1 .1 .1 .1 .1 .1 .0) (answerCounts noCounts (at-job .job .result)) (search needs) (search needs) (search needs) (search needs)),
+          (lent-lengths (last .1 .1 .1 .1 .0) (last .1 .1 .1 .1 .1 .0) (last .1 .1 .1 .1 .1 .1 .0) (last .1 .1 .1 .1 .1 .1 .1 .0) (answerCounts noCounts (at-job .job .result)) (search needs) (search needs) (search needs) (search needs)),
     )
 
 same-length : tie.Need-same-length

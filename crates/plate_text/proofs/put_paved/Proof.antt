@@ -1,9 +1,11 @@
 -- `plate_text::put_paved` meets its contract.
 use mathlib.Core.Path.{_≡_, sym}
 use native.Mathlib.Omega.{arith}
+use Prim.Native.Nat.{_*_}
 use lib.ListN.{length}
 use lib.Seq.{length-take-le}
 use borrow.Author.Needs.{needs}
+use Rattle.input.specs.Job.{loopLimit, pairLimit}
 use Rattle.text.proofs.Midst.{put-same}
 use Rattle.plate_text.proofs.Texts.{no-job, many-job, found}
 use Rattle.plate_text.proofs.put_paved.Statement.{statement}
@@ -42,25 +44,25 @@ array-share-prefix-coords : tie.Need-array-share-prefix-coords
 array-share-prefix-coords c =
     let at-read : tie.After-read-job = search in
     let f = found _ _ _ _ (at-read .read-job .ensures) _ _ _ (c .before .before .size .given .1) .few in
-    let l : length (at-read .read-job .last .1 .0) ≡ 4096 = search needs in omega arith
+    let l : length (at-read .read-job .last .1 .0) ≡ pairLimit * 2 = search needs in omega arith
 
 slice-aggregate-put-job : tie.Need-slice-aggregate-put-job
 slice-aggregate-put-job c =
     let at-read : tie.After-read-job = search in
     let f = found _ _ _ _ (at-read .read-job .ensures) _ _ _ (c .before .before .before .size .given .1) .few in
-    let l : length (at-read .read-job .last .1 .0) ≡ 4096 = search needs in sym (length-take-le _ (at-read .read-job .last .1 .0) (omega arith))
+    let l : length (at-read .read-job .last .1 .0) ≡ pairLimit * 2 = search needs in sym (length-take-le _ (at-read .read-job .last .1 .0) (omega arith))
 
 array-share-prefix-loop-lengths : tie.Need-array-share-prefix-loop-lengths
 array-share-prefix-loop-lengths c =
     let at-read : tie.After-read-job = search in
     let f = found _ _ _ _ (at-read .read-job .ensures) _ _ _ (c .before .before .before .size .given .1) .few in
-    let l : length (at-read .read-job .last .1 .1 .0) ≡ 16 = search needs in omega arith
+    let l : length (at-read .read-job .last .1 .1 .0) ≡ loopLimit = search needs in omega arith
 
 slice-aggregate-put-job-2 : tie.Need-slice-aggregate-put-job-2
 slice-aggregate-put-job-2 c =
     let at-read : tie.After-read-job = search in
     let f = found _ _ _ _ (at-read .read-job .ensures) _ _ _ (c .before .before .before .before .size .given .1) .few in
-    let l : length (at-read .read-job .last .1 .1 .0) ≡ 16 = search needs in sym (length-take-le _ (at-read .read-job .last .1 .1 .0) (omega arith))
+    let l : length (at-read .read-job .last .1 .1 .0) ≡ loopLimit = search needs in sym (length-take-le _ (at-read .read-job .last .1 .1 .0) (omega arith))
 
 put-job-requires : tie.Need-put-job-requires
 put-job-requires c κs = search needs

@@ -6,7 +6,7 @@ use Prim.Native.Nat.{ℕ, _+_, _*_, _≤_, _<_}
 use native.Mathlib.Omega.{arith}
 use lib.ListN.{length, getD, take, length-take}
 use lib.Seq.{length-take-le, getD-take}
-use Rattle.state.specs.Limits.{quadLimit}
+use Rattle.state.specs.Limits.{quadLimit, frontLimit}
 use Rattle.state.specs.State.{Held}
 use Rattle.state.specs.Call.{held}
 use Rattle.state.specs.Sound.{Sound, sizesOf}
@@ -41,7 +41,7 @@ added-long c = c .find-closures .kept .1 .1 .1 .1 .0
 abbrev keptAfter : tie.After-find-closures → List Bool
 keptAfter c = c .find-closures .last .1 .1 .1 .1 .1 .0
 
-kept-long : (c : tie.After-find-closures) → length (keptAfter c) ≡ 16
+kept-long : (c : tie.After-find-closures) → length (keptAfter c) ≡ frontLimit
 kept-long c = c .find-closures .kept .1 .1 .1 .1 .1 .0
 
 few : (c : tie.After-find-closures) → c .find-closures .result ≤ 32
@@ -117,7 +117,7 @@ find-closures-requires c κs =
     let entry : tie.Start = search in
     let b = given entry in
     let s = sound entry in
-    let k : length (sizesOf b) ≤ 16 = simp length-take (omega arith) in
+    let k : length (sizesOf b) ≤ frontLimit = simp length-take (omega arith) in
     ((k, omega arith, k), (fits b (sound-counted b s), read-below b s (entry .args .limit)))
 
 add-if1 : tie.Need-add-if1

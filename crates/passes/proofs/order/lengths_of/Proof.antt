@@ -6,6 +6,7 @@ use native.Mathlib.Omega.{arith}
 use lib.ListN.{length, length-set}
 use Rattle.geometry.specs.Rings.{nodeRing}
 use Rattle.geometry.specs.Measures.{frontLength}
+use Rattle.state.specs.Limits.{frontLimit}
 use Rattle.state.proofs.Cutting.{total-within, part-of-all, part-is}
 use Rattle.passes.specs.Order.{lengthIn, lengthOf}
 use Rattle.passes.proofs.Inserting.{lengths-more}
@@ -13,7 +14,7 @@ use Rattle.passes.proofs.order.lengths_of.Statement.{statement}
 use Rattle.passes.proofs.order.lengths_of.Tie as tie
 
 abbrev Inv-loop : tie.InvT-loop
-Inv-loop points front-nodes sizes lengths₀ i₀ i-end lengths i = (i ≤ length sizes) × (length lengths ≡ 16) × ((k : ℕ) → k < i → lengthIn lengths k ≡ lengthOf points front-nodes sizes k)
+Inv-loop points front-nodes sizes lengths₀ i₀ i-end lengths i = (i ≤ length sizes) × (length lengths ≡ frontLimit) × ((k : ℕ) → k < i → lengthIn lengths k ≡ lengthOf points front-nodes sizes k)
 
 abbrev μ-loop : tie.MeasureT-loop
 μ-loop points front-nodes sizes lengths₀ i₀ i-end lengths i = length sizes - i

@@ -3,6 +3,7 @@ use mathlib.Core.Path.{_≡_, refl, sym, _∙_}
 use Prim.Native.Nat.{_-_, _≤_}
 use native.Mathlib.Omega.{arith}
 use lib.ListN.{length, take}
+use Rattle.state.specs.Limits.{frontLimit}
 use Rattle.rules.specs.Passes.{ordered}
 use Rattle.passes.specs.Order.{lengthIn}
 use Rattle.passes.proofs.Inserting.{places-below, places-more}
@@ -10,7 +11,7 @@ use Rattle.passes.proofs.order.sorted.Statement.{statement}
 use Rattle.passes.proofs.order.sorted.Tie as tie
 
 abbrev Inv-loop : tie.InvT-loop
-Inv-loop lengths n order₀ i₀ order i = (i ≤ n) × (length order ≡ 16) × (take i order ≡ ordered (lengthIn lengths) i)
+Inv-loop lengths n order₀ i₀ order i = (i ≤ n) × (length order ≡ frontLimit) × (take i order ≡ ordered (lengthIn lengths) i)
 
 abbrev μ-loop : tie.MeasureT-loop
 μ-loop lengths n order₀ i₀ order i = n - i

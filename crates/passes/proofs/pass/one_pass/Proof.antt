@@ -4,6 +4,7 @@ use Prim.Native.Nat.{_-_, _≤_}
 use native.Mathlib.Omega.{arith}
 use lib.ListN.{length, take, length-take}
 use lib.Seq.{length-take-le}
+use Rattle.state.specs.Limits.{frontLimit}
 use Rattle.state.specs.State.{Held, reading}
 use Rattle.state.specs.Call.{held}
 use Rattle.state.specs.Sound.{Sound, sizesOf}
@@ -94,7 +95,7 @@ pass-order-requires c κs =
     let entry : tie.Start Inv-loop μ-loop = search in
     let s = sound entry in
     let b = given entry in
-    let k : length (sizesOf b) ≤ 16 = simp length-take (omega arith) in
+    let k : length (sizesOf b) ≤ frontLimit = simp length-take (omega arith) in
     ((k, fits b (sound-counted b s)), read-below b s)
 
 begun-requires : tie.Need-begun-requires Inv-loop μ-loop

@@ -1,7 +1,9 @@
 -- `picture::drawing::put_drawing` meets its contract, by what was read.
 use mathlib.Core.Path.{_≡_, sym}
+use Prim.Native.Nat.{_*_}
 use lib.ListN.{length}
 use lib.Seq.{length-take-le}
+use Rattle.input.specs.Job.{loopLimit, pairLimit}
 use Rattle.captions.proofs.Lengths.{words-length}
 use Rattle.text.proofs.Midst.{put-same}
 use Rattle.picture.proofs.Texts.{found, no-job, many-job, job-few, job-drawn}
@@ -54,7 +56,7 @@ array-share-prefix-coords c =
     let at-size : tie.After-size = search in
     let at-read : tie.After-read-job = search in
     let f = found _ _ _ _ (at-read .read-job .ensures) _ _ _ (at-size .size .given .1) .few in
-    let l : length (at-read .read-job .last .1 .0) ≡ 4096 = search needs in
+    let l : length (at-read .read-job .last .1 .0) ≡ pairLimit * 2 = search needs in
     omega arith
 
 slice-aggregate-put-job : tie.Need-slice-aggregate-put-job
@@ -62,7 +64,7 @@ slice-aggregate-put-job c =
     let at-size : tie.After-size = search in
     let at-read : tie.After-read-job = search in
     let f = found _ _ _ _ (at-read .read-job .ensures) _ _ _ (at-size .size .given .1) .few in
-    let l : length (at-read .read-job .last .1 .0) ≡ 4096 = search needs in
+    let l : length (at-read .read-job .last .1 .0) ≡ pairLimit * 2 = search needs in
     sym (length-take-le _ (at-read .read-job .last .1 .0) (omega arith))
 
 array-share-prefix-loop-lengths : tie.Need-array-share-prefix-loop-lengths
@@ -70,7 +72,7 @@ array-share-prefix-loop-lengths c =
     let at-size : tie.After-size = search in
     let at-read : tie.After-read-job = search in
     let f = found _ _ _ _ (at-read .read-job .ensures) _ _ _ (at-size .size .given .1) .few in
-    let l : length (at-read .read-job .last .1 .1 .0) ≡ 16 = search needs in
+    let l : length (at-read .read-job .last .1 .1 .0) ≡ loopLimit = search needs in
     omega arith
 
 slice-aggregate-put-job-2 : tie.Need-slice-aggregate-put-job-2
@@ -78,7 +80,7 @@ slice-aggregate-put-job-2 c =
     let at-size : tie.After-size = search in
     let at-read : tie.After-read-job = search in
     let f = found _ _ _ _ (at-read .read-job .ensures) _ _ _ (at-size .size .given .1) .few in
-    let l : length (at-read .read-job .last .1 .1 .0) ≡ 16 = search needs in
+    let l : length (at-read .read-job .last .1 .1 .0) ≡ loopLimit = search needs in
     sym (length-take-le _ (at-read .read-job .last .1 .1 .0) (omega arith))
 
 put-job-requires : tie.Need-put-job-requires

@@ -1,5 +1,6 @@
 -- `picture::drawing::put_job` meets its contract.
 use mathlib.Core.Path.{refl, _∙_, ap}
+use Rattle.state.proofs.Sounding.{lent-lengths}
 use Rattle.state.specs.State.{noCounts}
 use Rattle.state.specs.Call.{held, left, answerCounts}
 use Rattle.input.specs.Job.{job}
@@ -8,7 +9,7 @@ use Rattle.text.specs.Putting.{Put}
 use Rattle.captions.proofs.Lengths.{words-length}
 use Rattle.picture.specs.Plates.{answerPicture}
 use Rattle.text.proofs.Midst.{put-same}
-use Rattle.plate_text.proofs.Answering.{answer-is, answer-sound, long}
+use Rattle.plate_text.proofs.Answering.{answer-is, answer-sound}
 use Rattle.picture.proofs.Texts.{no-point, some-point}
 use borrow.Author.Needs.{needs}
 use native.Mathlib.Omega.{arith}
@@ -74,7 +75,7 @@ put-answer-requires c κs =
       (
         entry .pre .1,
         answer-sound _ _ _ _ _ _ _ _ _ (at-job .job .ensures)
-            (long (last .1 .1 .1 .1 .0) (last .1 .1 .1 .1 .1 .0) (last .1 .1 .1 .1 .1 .1 .0) (last .1 .1 .1 .1 .1 .1 .1 .0) (answerCounts noCounts (at-job .job .result)) (search needs) (search needs) (search needs) (search needs)),
+            (lent-lengths (last .1 .1 .1 .1 .0) (last .1 .1 .1 .1 .1 .0) (last .1 .1 .1 .1 .1 .1 .0) (last .1 .1 .1 .1 .1 .1 .1 .0) (answerCounts noCounts (at-job .job .result)) (search needs) (search needs) (search needs) (search needs)),
       ),
     )
 

@@ -2,11 +2,10 @@ use mathlib.Core.Path.{_≡_, sym, _∙_}
 use mathlib.Core.Bool.{false}
 use borrow.Author.Needs.{needs}
 use Rattle.state.specs.State.{Held, lengths}
-use Rattle.state.specs.Call.{held, lengthsOf}
+use Rattle.state.specs.Call.{held, lent}
 use Rattle.state.specs.Given.{wrongState}
 use Rattle.state.proofs.Sounding as sounding
 use Rattle.text.proofs.Midst.{put-same}
-use Rattle.plate_text.proofs.Answering.{long}
 use Rattle.plates.proofs.Stated.{unshown, stands}
 use Rattle.plates.proofs.showing.put_shown.Statement.{statement}
 use Rattle.plates.proofs.showing.put_shown.Tie as tie
@@ -21,12 +20,12 @@ given s = held (s .args .points .now) (s .args .quads .now) (s .args .front-node
 abbrev lent-from : tie.After-wrong-state-arg4 → tie.Start
 lent-from c = search
 
-right : (c : tie.After-wrong-state-arg4) → lengths (given (lent-from c)) ≡ lengthsOf 8192 16384 2048 16
+right : (c : tie.After-wrong-state-arg4) → lengths (given (lent-from c)) ≡ lent
 right c =
     let third = c .before in
     let second = third .before in
     let entry = lent-from c in
-    long (entry .args .points .now) (entry .args .quads .now) (entry .args .front-nodes .now) (entry .args .front-lengths .now) (entry .args .counts) (second .before .wrong-state-arg .given .0) (second .wrong-state-arg2 .given .0) (third .wrong-state-arg3 .given .0) (c .wrong-state-arg4 .given .0)
+    sounding.lent-lengths (entry .args .points .now) (entry .args .quads .now) (entry .args .front-nodes .now) (entry .args .front-lengths .now) (entry .args .counts) (second .before .wrong-state-arg .given .0) (second .wrong-state-arg2 .given .0) (third .wrong-state-arg3 .given .0) (c .wrong-state-arg4 .given .0)
 
 abbrev start-of : tie.Else1 → tie.Start
 start-of c = search

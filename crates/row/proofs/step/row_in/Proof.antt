@@ -6,6 +6,7 @@ use native.Mathlib.Omega.{arith}
 use lib.Ieee.{Float}
 use lib.ListN.{length, getD, take, length-take}
 use lib.Seq.{length-take-le, getD-take}
+use Rattle.state.specs.Limits.{frontLimit}
 use Rattle.state.specs.State.{Held}
 use Rattle.state.specs.Call.{held}
 use Rattle.state.specs.Sound.{Sound, sizesOf}
@@ -76,7 +77,7 @@ try-row-requires c κs =
     let entry : tie.Start = search in
     let s = sound entry in
     let b = given entry in
-    let k : length (sizesOf b) ≤ 16 = simp length-take (omega arith) in
+    let k : length (sizesOf b) ≤ frontLimit = simp length-take (omega arith) in
     let e = points-long b (sound-counted b s) in
     ((there entry, k, s .quads), ((entry .pre .1 .1 .0 .1, fits b (sound-counted b s), rw (size-is entry) (entry .pre .1 .1 .1), omega arith), read-below b s))
 
