@@ -3,13 +3,12 @@
 use standard::Input;
 
 fn main() {
-    // One byte more than a job's text may have: a longer one is cut there, and is unreadable all the same.
-    let mut input = [0u8; 65537];
+    let mut input = standard::input_buffer();
     let Input::Bytes(n) = standard::read_input(&mut input) else {
         standard::say_unread();
         return;
     };
-    let mut output = [0u8; 1638400];
+    let mut output = standard::picture_buffer();
     let m = picture::draw_text(&input[..n], &mut output);
     if m <= output.len() {
         standard::write_output(&output[..m]);

@@ -1,8 +1,8 @@
 // Jobs that no text can say: sizes, coordinates and options.
-use crate::calls::run;
-use crate::showing::line;
+use calls::run;
 use input::Options;
 use input::defaults;
+use showing::line;
 
 fn pave(name: &[u8], h: f64, options: Options, coords: &[f64]) {
     line(name);

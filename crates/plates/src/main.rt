@@ -1,9 +1,6 @@
 // Plates that the Rust answered, run through the port. What is printed is held to the file `stdout`, which oracle/record writes from
 // the Rust's answers, with the words of `args` and the texts of `data`.
-mod calls;
 mod jobs;
-mod showing;
-mod starting;
 mod words;
 
 fn main() {

@@ -1,12 +1,12 @@
 // The program's words. Each is the name of a file with a job's text, and the job is paved; or that name, a tab and the letters of
 // calls, which are made on a state of the job.
 ghost use Rattle.io.specs.Counts.{Counts};
-use crate::calls::run;
-use crate::showing::line;
-use crate::showing::show_text;
+use calls::run;
 use input::defaults;
 use job_text::JobRead;
 use job_text::read_job;
+use showing::line;
+use showing::show_text;
 
 // The bytes of a file that 65,536 bytes hold; none, and a line on standard error, where it cannot be opened.
 fn read_file(path: &[u8], input: &mut [u8; 65536]) -> usize
@@ -22,7 +22,7 @@ fn read_file(path: &[u8], input: &mut [u8; 65536]) -> usize
 }
 
 fn pave(text: &[u8]) {
-    let mut out = [0u8; 270336];
+    let mut out = standard::answer_buffer();
     let n = plate_text::pave_text(text, &mut out);
     show_text(&out, n);
 }

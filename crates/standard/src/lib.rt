@@ -1,4 +1,9 @@
 // Standard input read whole and standard output written whole, for programs that turn one text into another.
+mod buffers;
+
+pub use buffers::answer_buffer;
+pub use buffers::input_buffer;
+pub use buffers::picture_buffer;
 ghost use Prim.Native.Nat.{_≤_};
 ghost use lib.ListN.{length};
 ghost use Rattle.standard.specs.Input.{Reached};

@@ -1,13 +1,13 @@
 -- `draw::main` is safe and ends.
-use mathlib.Core.Path.{_≡_, sym, _∙_}
-use native.Mathlib.Omega.{arith}
-use lib.ListN.{length}
+use mathlib.Core.Path.{sym}
 use lib.Seq.{length-take-le}
 use borrow.Author.Needs.{needs}
-use Rattle.standard.proofs.Pieces.{came}
-use Rattle.draw.proofs.Long.{long}
+use Rattle.standard.proofs.Pieces.{within, as-many}
 use Rattle.draw.proofs.main.Statement.{statement}
 use Rattle.draw.proofs.main.Tie as tie
+
+input-buffer-requires : tie.Need-input-buffer-requires
+input-buffer-requires c κs = search needs
 
 slice-aggregate-read-input : tie.Need-slice-aggregate-read-input
 slice-aggregate-read-input c = search needs
@@ -27,33 +27,34 @@ say-unread-requires c κs = search needs
 returns : tie.Need-returns
 returns c = search needs
 
+picture-buffer-requires : tie.Need-picture-buffer-requires
+picture-buffer-requires c κs = search needs
+
 array-share-prefix-input : tie.Need-array-share-prefix-input
 array-share-prefix-input c =
-    let at-read : tie.After-read-input = search in
-    let g = came _ _ _ _ _ (at-read .read-input .ensures) (c .before .n .given .1) in omega arith
+    let read : tie.After-read-input = search in
+    let at-n : tie.After-n = search in
+    within _ _ _ (read .read-input .last .0) (read .read-input .ensures) (at-n .n .given .1)
 
 slice-aggregate-draw-text : tie.Need-slice-aggregate-draw-text
 slice-aggregate-draw-text c =
-    let at-read : tie.After-read-input = search in
-    let g = came _ _ _ _ _ (at-read .read-input .ensures) (c .before .before .n .given .1) in sym (length-take-le _ (at-read .read-input .last .0) (omega arith))
+    let read : tie.After-read-input = search in
+    let at-n : tie.After-n = search in
+    as-many _ _ _ (read .read-input .last .0) (read .read-input .ensures) (at-n .n .given .1)
 
 slice-aggregate-draw-text-2 : tie.Need-slice-aggregate-draw-text-2
-slice-aggregate-draw-text-2 c = long 1638400
+slice-aggregate-draw-text-2 c = search needs
 
 draw-text-requires : tie.Need-draw-text-requires
 draw-text-requires c κs = search needs
 
 array-share-prefix-output : tie.Need-array-share-prefix-output
-array-share-prefix-output c =
-    let at-if1 : tie.Then1 = search in
-    let at-text : tie.After-draw-text = search in
-    let l : length (at-text .draw-text .last .1 .0) ≡ 1638400 = at-text .draw-text .kept .1 .0 ∙ sym (long 1638400) in rw l (at-if1 .if1 .taken)
+array-share-prefix-output c = search needs
 
 slice-aggregate-write-output : tie.Need-slice-aggregate-write-output
 slice-aggregate-write-output c =
-    let at-if1 : tie.Then1 = search in
     let at-text : tie.After-draw-text = search in
-    let l : length (at-text .draw-text .last .1 .0) ≡ 1638400 = at-text .draw-text .kept .1 .0 ∙ sym (long 1638400) in sym (length-take-le _ (at-text .draw-text .last .1 .0) (rw l (at-if1 .if1 .taken)))
+    sym (length-take-le _ (at-text .draw-text .last .1 .0) (search needs))
 
 write-output-requires : tie.Need-write-output-requires
 write-output-requires c κs = search needs
@@ -68,12 +69,14 @@ pub main-spec : {M : Type 1} → statement M
 main-spec =
     tie.close
     (tie.spec
+    input-buffer-requires
     slice-aggregate-read-input
     read-input-requires
     enum-known-n
     enum-told
     say-unread-requires
     returns
+    picture-buffer-requires
     array-share-prefix-input
     slice-aggregate-draw-text
     slice-aggregate-draw-text-2

@@ -1,12 +1,13 @@
 -- `pave::main` is safe and ends.
-use mathlib.Core.Path.{_≡_, sym}
-use native.Mathlib.Omega.{arith}
-use lib.ListN.{length}
+use mathlib.Core.Path.{sym}
 use lib.Seq.{length-take-le}
 use borrow.Author.Needs.{needs}
-use Rattle.standard.proofs.Pieces.{came}
+use Rattle.standard.proofs.Pieces.{within, as-many}
 use Rattle.pave.proofs.main.Statement.{statement}
 use Rattle.pave.proofs.main.Tie as tie
+
+input-buffer-requires : tie.Need-input-buffer-requires
+input-buffer-requires c κs = search needs
 
 slice-aggregate-read-input : tie.Need-slice-aggregate-read-input
 slice-aggregate-read-input c = search needs
@@ -26,15 +27,20 @@ say-unread-requires c κs = search needs
 returns : tie.Need-returns
 returns c = search needs
 
+answer-buffer-requires : tie.Need-answer-buffer-requires
+answer-buffer-requires c κs = search needs
+
 array-share-prefix-input : tie.Need-array-share-prefix-input
 array-share-prefix-input c =
-    let at-read : tie.After-read-input = search in
-    let g = came _ _ _ _ _ (at-read .read-input .ensures) (c .before .n .given .1) in omega arith
+    let read : tie.After-read-input = search in
+    let at-n : tie.After-n = search in
+    within _ _ _ (read .read-input .last .0) (read .read-input .ensures) (at-n .n .given .1)
 
 slice-aggregate-pave-text : tie.Need-slice-aggregate-pave-text
 slice-aggregate-pave-text c =
-    let at-read : tie.After-read-input = search in
-    let g = came _ _ _ _ _ (at-read .read-input .ensures) (c .before .before .n .given .1) in sym (length-take-le _ (at-read .read-input .last .0) (omega arith))
+    let read : tie.After-read-input = search in
+    let at-n : tie.After-n = search in
+    as-many _ _ _ (read .read-input .last .0) (read .read-input .ensures) (at-n .n .given .1)
 
 slice-aggregate-pave-text-2 : tie.Need-slice-aggregate-pave-text-2
 slice-aggregate-pave-text-2 c = search needs
@@ -43,15 +49,12 @@ pave-text-requires : tie.Need-pave-text-requires
 pave-text-requires c κs = search needs
 
 array-share-prefix-output : tie.Need-array-share-prefix-output
-array-share-prefix-output c =
-    let at-text : tie.After-pave-text = search in
-    let l : length (at-text .pave-text .last .1 .0) ≡ 270336 = search needs in omega arith
+array-share-prefix-output c = search needs
 
 slice-aggregate-write-output : tie.Need-slice-aggregate-write-output
 slice-aggregate-write-output c =
-    let at-if1 : tie.Then1 = search in
     let at-text : tie.After-pave-text = search in
-    let l : length (at-text .pave-text .last .1 .0) ≡ 270336 = search needs in sym (length-take-le _ (at-text .pave-text .last .1 .0) (rw l (at-if1 .if1 .taken)))
+    sym (length-take-le _ (at-text .pave-text .last .1 .0) (search needs))
 
 write-output-requires : tie.Need-write-output-requires
 write-output-requires c κs = search needs
@@ -66,12 +69,14 @@ pub main-spec : {M : Type 1} → statement M
 main-spec =
     tie.close
     (tie.spec
+    input-buffer-requires
     slice-aggregate-read-input
     read-input-requires
     enum-known-n
     enum-told
     say-unread-requires
     returns
+    answer-buffer-requires
     array-share-prefix-input
     slice-aggregate-pave-text
     slice-aggregate-pave-text-2

@@ -3,73 +3,53 @@ use lib.Seq.{length-take-le}
 use borrow.Author.Needs.{needs}
 use Rattle.plates.proofs.words.call.Statement.{statement}
 use Rattle.plates.proofs.words.call.Tie as tie
-use Rattle.plates.proofs.words.call.Reads as reads
-use Rattle.plates.proofs.words.call.Lts as lts
-use Rattle.input.proofs.defaults.Reads as defaults-reads
-use Rattle.job_text.proofs.read_job.Reads as read-job-reads
-use Rattle.plates.proofs.calls.run.Reads as run-reads
 
--- src/words.rt:33:58
 slice-aggregate-read-job : tie.Need-slice-aggregate-read-job
 slice-aggregate-read-job c = search needs
 
--- src/words.rt:33:71
 slice-aggregate-read-job-2 : tie.Need-slice-aggregate-read-job-2
 slice-aggregate-read-job-2 c = search needs
 
--- src/words.rt:33:43
 read-job-requires : tie.Need-read-job-requires
 read-job-requires c κs = search needs
 
--- src/words.rt:33:21
 enum-known-size : tie.Need-enum-known-size
 enum-known-size c = search needs
 
--- src/words.rt:34:9
 returns : tie.Need-returns
 returns c = tt
 
--- src/words.rt:37:9
 returns-2 : tie.Need-returns-2
 returns-2 c = tt
 
--- src/words.rt:40:9
 returns-3 : tie.Need-returns-3
 returns-3 c = tt
 
--- src/words.rt:42:18
 mul-floats : tie.Need-mul-floats
 mul-floats c = search needs
 
--- src/words.rt:43:15
 defaults-requires : tie.Need-defaults-requires
 defaults-requires c κs = tt
 
--- src/words.rt:43:27
 array-share-prefix-coords : tie.Need-array-share-prefix-coords
 array-share-prefix-coords c = search needs
 
--- src/words.rt:43:27
 slice-aggregate-run : tie.Need-slice-aggregate-run
 slice-aggregate-run c =
     let at-read : tie.After-read-job = search in
     sym (length-take-le _ (at-read .read-job .last .1 .0) (search needs))
 
--- src/words.rt:43:46
 array-share-prefix-loops : tie.Need-array-share-prefix-loops
 array-share-prefix-loops c = search needs
 
--- src/words.rt:43:46
 slice-aggregate-run-2 : tie.Need-slice-aggregate-run-2
 slice-aggregate-run-2 c =
     let at-read : tie.After-read-job = search in
     sym (length-take-le _ (at-read .read-job .last .1 .1 .0) (search needs))
 
--- src/words.rt:43:5
 run-requires : tie.Need-run-requires
 run-requires c κs = tt
 
--- src/words.rt:30:1
 returns-4 : tie.Need-returns-4
 returns-4 c = tt
 

@@ -2,15 +2,10 @@ use mathlib.Core.Path.{_∙_}
 use Rattle.state.specs.State.{Held}
 use Rattle.state.specs.Call.{held}
 use Rattle.input.specs.Job.{Job, job}
-use Rattle.plates.proofs.Stepping.{closes, fans, lays}
+use Rattle.calls.proofs.Stepping.{closes, fans, lays}
 use borrow.Author.Needs.{needs}
-use Rattle.plates.proofs.calls.make.Statement.{statement}
-use Rattle.plates.proofs.calls.make.Tie as tie
-use Rattle.plates.proofs.calls.make.Reads as reads
-use Rattle.plates.proofs.calls.make.Lts as lts
-use Rattle.closing.proofs.close.Reads as close-reads
-use Rattle.fan.proofs.fan.Reads as fan-reads
-use Rattle.row.proofs.row.Reads as row-reads
+use Rattle.calls.proofs.making.make.Statement.{statement}
+use Rattle.calls.proofs.making.make.Tie as tie
 
 abbrev given : tie.Start → Held
 given s = held (s .args .points .now) (s .args .quads .now) (s .args .front-nodes .now) (s .args .front-lengths .now) (s .args .counts)
@@ -18,22 +13,18 @@ given s = held (s .args .points .now) (s .args .quads .now) (s .args .front-node
 abbrev jobAt : tie.Start → Job
 jobAt s = job (s .args .coords .now) (s .args .loops .now) (s .args .h) (s .args .options)
 
--- src/calls.rt:30:9
 close-requires : tie.Need-close-requires
 close-requires c κs = search needs
 
--- src/calls.rt:30:9
 returns : tie.Need-returns
 returns c =
     let at-if1 : tie.Then1 = search in
     let entry : tie.Start = search in
     c .close .ensures ∙ closes (jobAt entry) (entry .args .letter) (given entry) (at-if1 .if1 .taken)
 
--- src/calls.rt:43:9
 fan-requires : tie.Need-fan-requires
 fan-requires c κs = search needs
 
--- src/calls.rt:43:9
 returns-2 : tie.Need-returns-2
 returns-2 c =
     let at-if2 : tie.Then2 = search in
@@ -41,15 +32,12 @@ returns-2 c =
     let entry : tie.Start = search in
     c .fan .ensures ∙ fans (jobAt entry) (entry .args .letter) (given entry) (at-if1 .if1 .left) (at-if2 .if2 .taken)
 
--- src/calls.rt:60:9
 cast-row : tie.Need-cast-row
 cast-row c = search needs
 
--- src/calls.rt:55:5
 row-requires : tie.Need-row-requires
 row-requires c κs = search needs
 
--- src/calls.rt:14:1
 returns-3 : tie.Need-returns-3
 returns-3 c =
     let at-if2 : tie.Else2 = search in

@@ -7,7 +7,7 @@ use Rattle.state.specs.State.{Held, reading}
 use Rattle.state.specs.Given.{wrongState}
 use Rattle.text.specs.Putting.{Put}
 use Rattle.answer_text.specs.AnswerText.{stateText}
-use Rattle.plates.specs.Shown.{shown}
+use Rattle.showing.specs.Shown.{shown}
 
 pub stands : (b : Held) → wrongState b ≡ false → stateText (reading b) ≡ shown b
 unfolding shown

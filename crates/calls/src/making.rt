@@ -2,11 +2,11 @@
 ghost use mathlib.Core.Path.{_≡_};
 ghost use Rattle.input.specs.Job.{job};
 ghost use Rattle.state.specs.Call.{answerCounts, held, left};
-ghost use Rattle.plates.specs.Calls.{letterCall, after};
-use crate::showing::show_refused;
-use crate::showing::show_state;
+ghost use Rattle.calls.specs.Calls.{letterCall, after};
 use crate::starting::begin;
 use input::Options;
+use showing::show_refused;
+use showing::show_state;
 use state::Answer;
 use state::Counts;
 

@@ -6,13 +6,9 @@ use Rattle.state.specs.Call.{held, lent}
 use Rattle.state.specs.Given.{wrongState}
 use Rattle.state.proofs.Sounding as sounding
 use Rattle.text.proofs.Midst.{put-same}
-use Rattle.plates.proofs.Stated.{unshown, stands}
-use Rattle.plates.proofs.showing.put_shown.Statement.{statement}
-use Rattle.plates.proofs.showing.put_shown.Tie as tie
-use Rattle.plates.proofs.showing.put_shown.Reads as reads
-use Rattle.plates.proofs.showing.put_shown.Lts as lts
-use Rattle.answer_text.proofs.put_state.Reads as put-state-reads
-use Rattle.state.proofs.wrong_state.Reads as wrong-state-reads
+use Rattle.showing.proofs.Stated.{unshown, stands}
+use Rattle.showing.proofs.put_shown.Statement.{statement}
+use Rattle.showing.proofs.put_shown.Tie as tie
 
 abbrev given : tie.Start → Held
 given s = held (s .args .points .now) (s .args .quads .now) (s .args .front-nodes .now) (s .args .front-lengths .now) (s .args .counts)
@@ -35,19 +31,16 @@ not-wrong c =
     let at-wrong : tie.After-wrong-state = search in
     sym (at-wrong .wrong-state .ensures) ∙ c .if1 .left
 
--- src/showing.rt:44:8
 wrong-state-requires : tie.Need-wrong-state-requires
 wrong-state-requires c κs =
     right c
 
--- src/showing.rt:45:9
 returns : tie.Need-returns
 returns c =
     let at-wrong : tie.After-wrong-state = search in
     let entry : tie.Start = search in
     unshown (given entry) (entry .args .out .now) (sym (at-wrong .wrong-state .ensures) ∙ c .if1 .taken)
 
--- src/showing.rt:47:5
 put-state-requires : tie.Need-put-state-requires
 put-state-requires c κs =
     let at-if1 : tie.Else1 = search in
@@ -55,11 +48,9 @@ put-state-requires c κs =
     let entry : tie.Start = search in
     (search needs, sounding.sound (given entry) (right at-lent) (not-wrong at-if1))
 
--- src/showing.rt:33:1
 same-length : tie.Need-same-length
 same-length c = search needs
 
--- src/showing.rt:33:1
 returns-2 : tie.Need-returns-2
 returns-2 c =
     let at-put : tie.After-put-state = search in

@@ -14,7 +14,7 @@ use Rattle.state.specs.Call.{Left, answerCounts, held, left}
 use Rattle.input.specs.Job.{Job}
 use Rattle.rules.specs.Calls.{closeCall, fanCall}
 use Rattle.rules.specs.RowCall.{rowCall}
-use Rattle.plates.specs.Calls.{letterCall, after}
+use Rattle.calls.specs.Calls.{letterCall, after}
 
 module _ (j : Job) (n : ℕ) (b : Held) where
   pub closes : n ≡ 99 → closeCall j b ≡ letterCall j n b

@@ -5,14 +5,10 @@ use borrow.Author.Needs.{needs}
 use Rattle.input.specs.Job.{Job, job}
 use Rattle.state.specs.State.{Held}
 use Rattle.state.specs.Call.{held}
-use Rattle.plates.specs.Calls.{after}
-use Rattle.plates.proofs.Stepping.{stepped, all-made}
-use Rattle.plates.proofs.calls.make_all.Statement.{statement}
-use Rattle.plates.proofs.calls.make_all.Tie as tie
-use Rattle.plates.proofs.calls.make_all.Reads as reads
-use Rattle.plates.proofs.calls.make_all.Lts as lts
-use Rattle.plates.proofs.calls.counts_after.Reads as counts-after-reads
-use Rattle.plates.proofs.calls.make.Reads as make-reads
+use Rattle.calls.specs.Calls.{after}
+use Rattle.calls.proofs.Stepping.{stepped, all-made}
+use Rattle.calls.proofs.making.make_all.Statement.{statement}
+use Rattle.calls.proofs.making.make_all.Tie as tie
 
 abbrev Inv-loop : tie.InvT-loop
 Inv-loop coords loops h options letters points₀ quads₀ front-nodes₀ front-lengths₀ counts₀ k₀ points quads front-nodes front-lengths counts k =
@@ -30,31 +26,24 @@ at-head c = held (c .loop .points) (c .loop .quads) (c .loop .front-nodes) (c .l
 abbrev jobAt : tie.Start Inv-loop μ-loop → Job
 jobAt s = job (s .args .coords .now) (s .args .loops .now) (s .args .h) (s .args .options)
 
--- src/calls.rt:100:5
 loop-holds : tie.Need-loop-holds Inv-loop μ-loop
 loop-holds c = (search needs, refl)
 
--- src/calls.rt:102:13
 shared-slice-read-make : tie.Need-shared-slice-read-make Inv-loop μ-loop
 shared-slice-read-make c = search needs
 
--- src/calls.rt:101:13
 make-requires : tie.Need-make-requires Inv-loop μ-loop
 make-requires c κs = search needs
 
--- src/calls.rt:113:9
 counts-after-requires : tie.Need-counts-after-requires Inv-loop μ-loop
 counts-after-requires c κs = search needs
 
--- src/calls.rt:114:9
 add-k : tie.Need-add-k Inv-loop μ-loop
 add-k c = search needs
 
--- src/calls.rt:100:5
 loop-less : tie.Need-loop-less Inv-loop μ-loop
 loop-less c = search needs
 
--- src/calls.rt:100:5
 loop-again : tie.Need-loop-again Inv-loop μ-loop
 loop-again c =
     let at-after : tie.After-counts-after Inv-loop μ-loop = search in
@@ -64,7 +53,6 @@ loop-again c =
     let entry : tie.Start Inv-loop μ-loop = search in
     (search needs, stepped (jobAt entry) (entry .args .letters .now) (at-loop .loop .k) (at-head at-loop) (at-make .make .result) _ _ _ _ (at-after .counts-after .result) _ (in-loop .loop-test .taken) (at-make .make .ensures) (at-after .counts-after .ensures) (at-loop .loop .inv .1))
 
--- src/calls.rt:83:1
 returns : tie.Need-returns Inv-loop μ-loop
 returns c =
     let at-loop : tie.At-loop Inv-loop μ-loop = search in

@@ -4,7 +4,7 @@ ghost use lib.ListN.{length};
 ghost use Rattle.state.specs.Call.{held};
 ghost use Rattle.text.specs.Putting.{Put};
 ghost use Rattle.answer_text.specs.Fits.{textLimit};
-ghost use Rattle.plates.specs.Shown.{shown};
+ghost use Rattle.showing.specs.Shown.{shown};
 use answer_text::put_state;
 use state::Counts;
 use state::wrong_state;
@@ -52,7 +52,7 @@ pub fn show_state(
     front_lengths: &[u16; 16],
     counts: Counts,
 ) {
-    let mut out = [0u8; 270336];
+    let mut out = standard::answer_buffer();
     let n = put_shown(&mut out, points, quads, front_nodes, front_lengths, counts);
     show_text(&out, n);
 }
