@@ -33,7 +33,7 @@ wide-requires : tie.Need-wide-requires Inv-loop μ-loop
 wide-requires c κs = search needs
 
 abbrev start-of : tie.After-wide Inv-loop μ-loop → tie.Start Inv-loop μ-loop
-start-of c = c .before .before .before .before .before .before .before
+start-of c = search
 
 abbrev turn-of : tie.After-wide Inv-loop μ-loop → tie.At-loop Inv-loop μ-loop
 turn-of c = c .before .before .before

@@ -23,9 +23,12 @@ sharp-turn-requires c κs = search needs
 
 returns : tie.Need-returns
 returns c =
-    let reads-3 = c .before .before .before .before .before .before .before .before .before in
-    let places = reads-3 .before .before .before in
-    sharp-corner _ _ _ _ _ _ (rw (← places .before .prev-of .ensures .0) (reads-3 .before .before .point-at .ensures)) (reads-3 .before .point-at2 .ensures) (rw (← places .next-of .ensures .0) (reads-3 .point-at3 .ensures)) (c .sharp-turn .ensures)
+    let third : tie.After-point-at3 = search in
+    let second : tie.After-point-at2 = search in
+    let first : tie.After-point-at = search in
+    let next : tie.After-next-of = search in
+    let prev : tie.After-prev-of = search in
+    sharp-corner _ _ _ _ _ _ (rw (← prev .prev-of .ensures .0) (first .point-at .ensures)) (second .point-at2 .ensures) (rw (← next .next-of .ensures .0) (third .point-at3 .ensures)) (c .sharp-turn .ensures)
 
 pub sharp-at-spec : {M : Type 1} → statement M
 sharp-at-spec =

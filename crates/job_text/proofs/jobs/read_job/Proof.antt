@@ -28,7 +28,7 @@ returns-2 c =
     let t = entry .args .text .now in
     unreadable t _ _ (no-size-word t (at-if1 .if1 .left) (not-there sizeWord t 0 (at-word .begins-with .result) (at-word .begins-with .ensures) (not-true (at-word .begins-with .result) (c .if2 .taken))))
 
-size-word : (c : tie.Else2) → There sizeWord (c .before .before .before .before .before .before .before .args .text .now) 0
+size-word : (c : tie.Else2) → let entry : tie.Start = search in There sizeWord (entry .args .text .now) 0
 size-word c =
     let at-word : tie.After-begins-with = search in
     let entry : tie.Start = search in
@@ -55,7 +55,7 @@ returns-3 c =
 slice-aggregate-begins-with-2 : tie.Need-slice-aggregate-begins-with-2
 slice-aggregate-begins-with-2 c = search needs
 
-size-read : (c : tie.After-size) → Sized (c .before .before .before .before .before .before .before .before .before .before .args .text .now) 5 (c .size .given .0 .0) (c .size .given .0 .1 .0)
+size-read : (c : tie.After-size) → let entry : tie.Start = search in Sized (entry .args .text .now) 5 (c .size .given .0 .0) (c .size .given .0 .1 .0)
 size-read c =
     let at-read : tie.After-read-size = search in
     let at-if2 : tie.Else2 = search in
@@ -78,8 +78,9 @@ returns-4 c =
     unreadable t _ _ (no-outer t (at-if1 .if1 .left) (size-word at-if2) (size-read at-size) no-word)
 
 outer-word : (c : tie.Else3)
-    → let at-size = c .before .before .before .before in
-    There outerWord (at-size .before .before .before .before .before .before .before .before .before .before .args .text .now) (at-size .size .given .0 .1 .0)
+    → let at-size : tie.After-size = search in
+    let entry : tie.Start = search in
+    There outerWord (entry .args .text .now) (at-size .size .given .0 .1 .0)
 outer-word c =
     let at-word : tie.After-begins-with2 = search in
     let at-size : tie.After-size = search in
@@ -130,9 +131,10 @@ same-length-4 c = search needs
 
 -- the drawing, and what is stored of it
 found : (c : tie.After-pairs)
-    → let at-size = c .before .before .before .before .before .before .before .before .before .before .before .before .before in
-    let entry = at-size .before .before .before .before .before .before .before .before .before .before in
-    let called = c .before .before .before .before .before .before .read-loops in
+    → let at-loops : tie.After-read-loops = search in
+    let at-size : tie.After-size = search in
+    let entry : tie.Start = search in
+    let called = at-loops .read-loops in
     JobFound (entry .args .text .now) (at-size .size .given .0 .0) (entry .args .coords .now) (entry .args .loop-lengths .now) (stored (called .last .1 .1 .0) (called .last .1 .1 .1 .0) (c .pairs .given .0 .0) (c .pairs .given .0 .1 .0))
 found c =
     let at-loops : tie.After-read-loops = search in

@@ -49,7 +49,7 @@ returns-2 c =
 slice-aggregate-begins-with-2 : tie.Need-slice-aggregate-begins-with-2
 slice-aggregate-begins-with-2 c = search needs
 
-x-read : (c : tie.After-x) → let a = c .before .before .before .before .before .before .before .args in Coordinate (a .text .now) (a .at + 3) (c .x .given .0 .0) (c .x .given .0 .1 .0)
+x-read : (c : tie.After-x) → let entry : tie.Start = search in let a = entry .args in Coordinate (a .text .now) (a .at + 3) (c .x .given .0 .0) (c .x .given .0 .1 .0)
 x-read c =
     let at-whole : tie.After-read-whole = search in
     let at-if1 : tie.Else1 = search in
@@ -69,8 +69,9 @@ returns-3 c =
     no-tab _ (entry .args .at) (word at-if1) (x-read at-x) (not-there (9 ∷ []) _ (at-x .x .given .0 .1 .0) (at-word .begins-with2 .result) (at-word .begins-with2 .ensures) (not-true (at-word .begins-with2 .result) (c .if2 .taken)))
 
 tab : (c : tie.Else2)
-    → let at-x = c .before .before .before .before in
-    let a = at-x .before .before .before .before .before .before .before .args in
+    → let at-x : tie.After-x = search in
+    let entry : tie.Start = search in
+    let a = entry .args in
     There (9 ∷ []) (a .text .now) (at-x .x .given .0 .1 .0)
 tab c =
     let at-word : tie.After-begins-with2 = search in
@@ -104,8 +105,9 @@ slice-aggregate-begins-with-3 : tie.Need-slice-aggregate-begins-with-3
 slice-aggregate-begins-with-3 c = search needs
 
 y-read : (c : tie.After-y)
-    → let at-x = c .before .before .before .before .before .before .before in
-    let a = at-x .before .before .before .before .before .before .before .args in
+    → let at-x : tie.After-x = search in
+    let entry : tie.Start = search in
+    let a = entry .args in
     Coordinate (a .text .now) (at-x .x .given .0 .1 .0 + 1) (c .y .given .0 .0) (c .y .given .0 .1 .0)
 y-read c =
     let at-whole : tie.After-read-whole2 = search in
@@ -128,8 +130,9 @@ returns-5 c =
     no-lf _ (entry .args .at) (word at-if1) (x-read at-x) (tab at-if2) (y-read at-y) (not-there (10 ∷ []) _ (at-y .y .given .0 .1 .0) (at-word .begins-with3 .result) (at-word .begins-with3 .ensures) (not-true (at-word .begins-with3 .result) (c .if3 .taken)))
 
 lf : (c : tie.Else3)
-    → let at-y = c .before .before .before .before in
-    let a = at-y .before .before .before .before .before .before .before .before .before .before .before .before .before .before .args in
+    → let at-y : tie.After-y = search in
+    let entry : tie.Start = search in
+    let a = entry .args in
     There (10 ∷ []) (a .text .now) (at-y .y .given .0 .1 .0)
 lf c =
     let at-word : tie.After-begins-with3 = search in

@@ -15,7 +15,7 @@ use Rattle.picture.proofs.plates.put_paved.Statement.{statement}
 use Rattle.picture.proofs.plates.put_paved.Tie as tie
 
 abbrev entry-of : tie.After-put-head → tie.Start
-entry-of c = c .before .before .before .before .before .before .before .before .before
+entry-of c = search
 
 -- the text in its pieces
 begun : (s : tie.Start) → Going (s .args .out .now) (0) (pavedText (boxed (s .args .b)) (s .args .m) (s .args .coords .now) (s .args .loops .now) (s .args .points .now) (quadsOf (s .args .counts .quads) (s .args .quads .now)) (cut (s .args .lengths .now) (s .args .nodes .now)) (s .args .counts)) (s .args .out .now) (0) (headText (viewText (boxed (s .args .b)) (s .args .m)) (sizeText (boxed (s .args .b)) (s .args .m)) ∷ shapesText (s .args .coords .now) (s .args .loops .now) (s .args .points .now) (quadsOf (s .args .counts .quads) (s .args .quads .now)) (cut (s .args .lengths .now) (s .args .nodes .now)) (s .args .counts .laid) ∷ captionText (middleText (boxed (s .args .b))) (underText (boxed (s .args .b)) (s .args .m)) ∷ doneCaption (s .args .counts) (worst (inf false) (s .args .points .now) (quadsOf (s .args .counts .quads) (s .args .quads .now))) ∷ closing ∷ [])

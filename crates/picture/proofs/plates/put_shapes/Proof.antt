@@ -11,7 +11,7 @@ use Rattle.picture.proofs.plates.put_shapes.Statement.{statement}
 use Rattle.picture.proofs.plates.put_shapes.Tie as tie
 
 abbrev entry-of : tie.After-corner-limit → tie.Start
-entry-of c = c .before .before .before .before .before .before .before .before
+entry-of c = search
 
 -- the text in its pieces
 begun : (s : tie.Start) → Going (s .args .out .now) (s .args .at) (shapesText (s .args .coords .now) (s .args .loops .now) (s .args .points .now) (quadsOf (s .args .n) (s .args .quads .now)) (cut (s .args .lengths .now) (s .args .nodes .now)) (s .args .laid)) (s .args .out .now) (s .args .at) (tilesText cornerLimit (s .args .points .now) (quadsOf (s .args .n) (s .args .quads .now)) ∷ outlineText (s .args .coords .now) (s .args .loops .now) ∷ frontsText (s .args .points .now) (cut (s .args .lengths .now) (s .args .nodes .now)) ∷ dotsText (s .args .points .now) (s .args .laid) ∷ [])

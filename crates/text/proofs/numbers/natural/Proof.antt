@@ -55,7 +55,7 @@ returns-4 c =
     sym (odd-none (entry .args .most) _ (sym (at-spelled .spelled .ensures) ∙ ap numberIn (c .enum-told .given .1)))
 
 abbrev entry-of : tie.After-value → tie.Start
-entry-of c = c .before .before .before .before .before .before .before .before
+entry-of c = search
 
 -- no zero leads, so the field is the writing of what it spells
 found : (c : tie.After-value) → naturalOf (entry-of c .args .most) (slice (entry-of c .args .at) (entry-of c .args .end) (entry-of c .args .text .now)) ≡ cond (leb (c .value .given .0 .0) (entry-of c .args .most)) (some (c .value .given .0 .0)) none
