@@ -209,7 +209,8 @@ fn outline(r: &mut Random, s: Scale) -> (Vec<f64>, Vec<u16>) {
 fn front(r: &mut Random, s: Scale) -> (Vec<f64>, Vec<u16>) {
     let points = ring(r, s, 14);
     let n = points.len() / 2;
-    let nodes = if n == 0 { 0 } else { r.from_to(0, 12) };
+    let most = if r.chance(25) { 40 } else { 12 };
+    let nodes = if n == 0 { 0 } else { r.from_to(0, most) };
     let nodes = (0..nodes).map(|_| r.below(n) as u16).collect();
     (points, nodes)
 }
@@ -341,8 +342,44 @@ pub fn run(seed: u64, count: u64) -> bool {
         calls += tally.calls;
         differ += tally.differ;
     }
+    let mut tally = Tally::new("65,536 points or so");
+    many_points(&mut tally);
+    println!("{}", tally.line());
+    good &= tally.differ == 0;
+    calls += tally.calls;
+    differ += tally.differ;
     println!("{calls} compared, {differ} differ");
     good
+}
+
+/// Fronts among about as many points as a u16 counts: node numbers up to the last point's, and the one behind it.
+fn many_points(t: &mut Tally) {
+    for n in 65_534..=65_537 {
+        let points: Vec<f64> = (0..n * 2).map(|k| (k * k % 977) as f64 * 0.25).collect();
+        let p = [120.0, 110.0];
+        for length in [1, 4, 15, 16, 17, 33] {
+            for at in [0, length - 1] {
+                for greatest in [n - 2, n - 1, n] {
+                    let Ok(greatest) = u16::try_from(greatest) else { continue };
+                    let mut nodes: Vec<u16> = (0..length as u16).map(|k| k * 7).collect();
+                    nodes[at] = greatest;
+                    let input = || format!("{nodes:?} among {n} points");
+                    if (greatest as usize) < n {
+                        let wide: Vec<usize> = nodes.iter().map(|&n| n as usize).collect();
+                        let front = rust::Front::new(&pairs(&points), &wide);
+                        t.number(port::front_length(&points, &nodes), front.length(), input);
+                        t.truth(port::in_front(p, &points, &nodes), front.contains(p), input);
+                        t.number(port::front_distance(p, &points, &nodes), front.distance(p), input);
+                    } else {
+                        t.count("no such point");
+                        t.number(port::front_length(&points, &nodes), f64::NAN, input);
+                        t.truth(port::in_front(p, &points, &nodes), false, input);
+                        t.number(port::front_distance(p, &points, &nodes), f64::NAN, input);
+                    }
+                }
+            }
+        }
+    }
 }
 
 /// A side, now and then of no or nearly no length, and a point by it.

@@ -40,6 +40,19 @@ pub fit-end : (loops : List ℕ) (left k : ℕ) (t : Bool) → length loops ≤ 
 unfolding sumOf
 fit-end loops left k t h e = sym (e ∙ rw (drop-of-length-le loops h) (le-leb 0 left (omega arith)))
 
+pub fit-one : (coords : List Float) (loops : List ℕ) (n : ℕ) → length loops ≡ 1 → n ≡ getD loops 0 0 → leb n (length coords / 2) ≡ loopsFit coords loops
+unfolding sumOf
+fit-one coords loops n one hn = sym (fit-first coords loops ∙ ap (λ (m : ℕ). leb m (length coords / 2)) alone)
+  where
+    no-more : length loops ≤ 1
+    no-more = omega arith
+
+    none : sumOf (drop 1 loops) ≡ 0
+    none = ap sumOf (drop-of-length-le loops no-more)
+
+    alone : sumOf (drop 0 loops) ≡ n
+    alone = omega (arith, total-ahead loops 0 0 n (omega arith) hn, none)
+
 -- a call's requirement, from the test
 pub room : (coords : List Float) (loops : List ℕ) (t : Bool) → t ≡ loopsFit coords loops → t ≡ true → sumOf loops * 2 ≤ length coords
 unfolding loopsFit

@@ -1,5 +1,5 @@
 -- The measures of a front, for all node numbers. Definitions only.
-use Prim.Native.Nat.{ℕ, _+_, _*_}
+use Prim.Native.Nat.{ℕ, _/_}
 use mathlib.Core.Bool.{Bool, true, false, cond, _&&_}
 use mathlib.Core.List.{List, [], _∷_}
 use lib.ListN.{length}
@@ -9,10 +9,14 @@ use Rattle.geometry.specs.declared.Point.{Point}
 use Rattle.geometry.specs.Rings.{nodeRing}
 use Rattle.geometry.specs.Measures.{frontLength, inPolygon, ringDistance}
 
+-- whether every number is below n
+unfoldable pub allBelow : ℕ → List ℕ → Bool
+allBelow n [] = true
+allBelow n (m ∷ ms) = ltb m n && allBelow n ms
+
 -- whether every node number is that of a point
 unfoldable pub nodesFit : List Float → List ℕ → Bool
-nodesFit p [] = true
-nodesFit p (n ∷ ns) = ltb (n * 2 + 1) (length p) && nodesFit p ns
+nodesFit p nodes = allBelow (length p / 2) nodes
 
 unfoldable pub lengthOr : List Float → List ℕ → Float
 lengthOr p nodes = cond (nodesFit p nodes) (frontLength (nodeRing p nodes)) nan

@@ -4,11 +4,14 @@ ghost use Rattle.exports_geometry.specs.Measures.{point};
 ghost use Rattle.exports_geometry.specs.Outline.{areaOr, boundaryOr, containsOrNot, loopsFit};
 use geometry::Point;
 
-// Whether the coordinates have points for loops of these lengths.
+// Whether the coordinates have points for loops of these lengths. An outline of one loop takes one test.
 fn loops_fit(coords: &[f64], loop_lengths: &[u16]) -> bool
     ensures { λ r. ⌜ r ≡ loopsFit (now (coords .entry)) (now («loop_lengths» .entry)) ⌝ }
 {
     let mut left = coords.len() / 2;
+    if loop_lengths.len() == 1 {
+        return geometry::wide(loop_lengths[0]) <= left;
+    }
     let mut k = 0usize;
     while k < loop_lengths.len() {
         let n = geometry::wide(loop_lengths[k]);

@@ -25,6 +25,10 @@ Inv-loop points old row n least limit a₀ d₀ rung₀ i₀ a d rung i =
 abbrev μ-loop : tie.MeasureT-loop
 μ-loop points old row n least limit a₀ d₀ rung₀ i₀ a d rung i = n - i
 
+-- the start, for a turn of the loop
+abbrev entry-of : tie.In-loop Inv-loop μ-loop → tie.Start Inv-loop μ-loop
+entry-of c = search
+
 node-point-requires : tie.Need-node-point-requires Inv-loop μ-loop
 node-point-requires c κs =
     let entry : tie.Start Inv-loop μ-loop = search in
@@ -92,7 +96,7 @@ returns-2 c =
     let at-node-point2 : tie.After-node-point2 Inv-loop μ-loop = search in
     let at-next-of : tie.After-next-of Inv-loop μ-loop = search in
     let at-loop-test : tie.In-loop Inv-loop μ-loop = search in
-    let entry = at-loop-test .before .before .before .before .before .before .before .before in
+    let entry = entry-of at-loop-test in
     let a = entry .args in
     let t : tie.At-loop Inv-loop μ-loop = search in
     let l = at-loop-test .loop-test .taken in
@@ -120,7 +124,7 @@ loop-again c =
     let at-node-point2 : tie.After-node-point2 Inv-loop μ-loop = search in
     let at-next-of : tie.After-next-of Inv-loop μ-loop = search in
     let at-loop-test : tie.In-loop Inv-loop μ-loop = search in
-    let entry = at-loop-test .before .before .before .before .before .before .before .before in
+    let entry = entry-of at-loop-test in
     let a = entry .args in
     let t : tie.At-loop Inv-loop μ-loop = search in
     let l = at-loop-test .loop-test .taken in

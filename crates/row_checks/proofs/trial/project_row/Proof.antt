@@ -24,6 +24,10 @@ Inv-loop points nodes h row₀ n last a₀ b₀ l1₀ i₀ row a b l1 i =
 abbrev μ-loop : tie.MeasureT-loop
 μ-loop points nodes h row₀ n last a₀ b₀ l1₀ i₀ row a b l1 i = n - i
 
+-- the start, for a turn of the loop
+abbrev entry-of : tie.In-loop Inv-loop μ-loop → tie.Start Inv-loop μ-loop
+entry-of c = search
+
 prev-of-requires : tie.Need-prev-of-requires Inv-loop μ-loop
 prev-of-requires c κs = search needs
 
@@ -79,7 +83,7 @@ returns c =
     let at-node-point3 : tie.After-node-point3 Inv-loop μ-loop = search in
     let at-next-of : tie.After-next-of Inv-loop μ-loop = search in
     let at-loop-test : tie.In-loop Inv-loop μ-loop = search in
-    let entry = at-loop-test .before .before .before .before .before .before .before .before .before in
+    let entry = entry-of at-loop-test in
     let a = entry .args in
     let t : tie.At-loop Inv-loop μ-loop = search in
     let l = at-loop-test .loop-test .taken in
@@ -113,7 +117,7 @@ loop-again c =
     let at-node-point3 : tie.After-node-point3 Inv-loop μ-loop = search in
     let at-next-of : tie.After-next-of Inv-loop μ-loop = search in
     let at-loop-test : tie.In-loop Inv-loop μ-loop = search in
-    let entry = at-loop-test .before .before .before .before .before .before .before .before .before in
+    let entry = entry-of at-loop-test in
     let a = entry .args in
     let t : tie.At-loop Inv-loop μ-loop = search in
     let l = at-loop-test .loop-test .taken in
