@@ -50,12 +50,17 @@ extern "C" {
 
 /* ---- The options ---- */
 
-/* The defaults, each, and all five in the order of the calls' parameters. */
+/* The defaults, each, and all six in the order of the calls' parameters. */
 #define PAVE_CORNER_MARGIN 2.4        /* what a sharp corner takes from each of its sides in sampling, in sizes h */
 #define PAVE_MIN_EDGE_FRACTION 0.08   /* the shortest side of a new row, in sizes h */
 #define PAVE_FRONT_GAP 1.2            /* the least distance of a new row to another front, in sizes h */
 #define PAVE_MAX_ROW_ROUNDS 32        /* the most passes */
-#define PAVE_DEFAULT_OPTIONS PAVE_CORNER_MARGIN, PAVE_MIN_EDGE_FRACTION, PAVE_FRONT_GAP, PAVE_MAX_ROW_ROUNDS, false
+#define PAVE_CORNER_LIMIT 0.08715574274765817 /* what every corner value of a quad has to be above: the sine of 5 degrees */
+#define PAVE_DEFAULT_OPTIONS PAVE_CORNER_MARGIN, PAVE_MIN_EDGE_FRACTION, PAVE_FRONT_GAP, PAVE_MAX_ROW_ROUNDS, false, PAVE_CORNER_LIMIT
+
+/* The corner test: at each corner of a quad the cross product of its two sides, divided by the product of their lengths, is
+ * finite and above corner_limit. Every row, closing and fan tests its own quads so, with the limit of its own call; quads that
+ * were there are not tested again, and two calls on one state may have two limits. */
 
 /* ---- The counts ---- */
 
@@ -93,7 +98,7 @@ enum {
         /* The size h is not finite, or not above 0. */
     PAVE_OPTION = 3,
         /* The size is outside 0.001 to 1,000,000; corner_margin or front_gap outside 0 to 100; min_edge_fraction outside 0 to
-         * 1; the passes over 64; or seam is true. */
+         * 1; the passes over 64; seam is true; or corner_limit outside 0.02 to 0.9. A NaN is outside. */
     PAVE_OUTER = 4,
         /* The outer loop has fewer than three points. */
     PAVE_COORDINATE = 5,
@@ -135,7 +140,7 @@ enum {
 /* ---- The calls on a job ---- */
 
 /* The job: coords has x, then y, of each point, loop after loop; loop_lengths has the number of points of each loop, the outer
- * one first and counter-clockwise, then the holes, in any direction. h is the size of a tile. Then the five options.
+ * one first and counter-clockwise, then the holes, in any direction. h is the size of a tile. Then the six options.
  *
  * The results: quad i has the nodes quads[4 i] to quads[4 i + 3], and node n is the point points[2 n], points[2 n + 1]. Front k
  * has the front_lengths[k] nodes that follow those of the fronts before it in front_nodes.
@@ -148,7 +153,7 @@ uint32_t pave_sample(
     const double *coords, size_t coords_len,
     const uint16_t *loop_lengths, size_t loop_lengths_len,
     double h,
-    double corner_margin, double min_edge_fraction, double front_gap, uint64_t max_row_rounds, bool seam,
+    double corner_margin, double min_edge_fraction, double front_gap, uint64_t max_row_rounds, bool seam, double corner_limit,
     double *points, size_t points_len,
     uint16_t *quads, size_t quads_len,
     uint16_t *front_nodes, size_t front_nodes_len,
@@ -160,7 +165,7 @@ uint32_t pave_job(
     const double *coords, size_t coords_len,
     const uint16_t *loop_lengths, size_t loop_lengths_len,
     double h,
-    double corner_margin, double min_edge_fraction, double front_gap, uint64_t max_row_rounds, bool seam,
+    double corner_margin, double min_edge_fraction, double front_gap, uint64_t max_row_rounds, bool seam, double corner_limit,
     double *points, size_t points_len,
     uint16_t *quads, size_t quads_len,
     uint16_t *front_nodes, size_t front_nodes_len,
@@ -179,7 +184,7 @@ uint32_t pave_row(
     const double *coords, size_t coords_len,
     const uint16_t *loop_lengths, size_t loop_lengths_len,
     double h,
-    double corner_margin, double min_edge_fraction, double front_gap, uint64_t max_row_rounds, bool seam,
+    double corner_margin, double min_edge_fraction, double front_gap, uint64_t max_row_rounds, bool seam, double corner_limit,
     uint64_t front,
     double *points, size_t points_len,
     uint16_t *quads, size_t quads_len,
@@ -192,7 +197,7 @@ uint32_t pave_close(
     const double *coords, size_t coords_len,
     const uint16_t *loop_lengths, size_t loop_lengths_len,
     double h,
-    double corner_margin, double min_edge_fraction, double front_gap, uint64_t max_row_rounds, bool seam,
+    double corner_margin, double min_edge_fraction, double front_gap, uint64_t max_row_rounds, bool seam, double corner_limit,
     double *points, size_t points_len,
     uint16_t *quads, size_t quads_len,
     uint16_t *front_nodes, size_t front_nodes_len,
@@ -204,7 +209,7 @@ uint32_t pave_fan(
     const double *coords, size_t coords_len,
     const uint16_t *loop_lengths, size_t loop_lengths_len,
     double h,
-    double corner_margin, double min_edge_fraction, double front_gap, uint64_t max_row_rounds, bool seam,
+    double corner_margin, double min_edge_fraction, double front_gap, uint64_t max_row_rounds, bool seam, double corner_limit,
     double *points, size_t points_len,
     uint16_t *quads, size_t quads_len,
     uint16_t *front_nodes, size_t front_nodes_len,

@@ -29,7 +29,8 @@ double pave_segment_distance(double shortest, double x, double y, double ax, dou
 /* Whether the open sides from a to b and from c to d cross. */
 bool pave_segments_cross(double ax, double ay, double bx, double by, double cx, double cy, double dx, double dy);
 
-/* The corner test of the quad a b c d: every corner value is finite and above 0.08715574274765817, the sine of 5 degrees. */
+/* The corner test of the quad a b c d with the default limit: every corner value is finite and above 0.08715574274765817, the
+ * sine of 5 degrees. */
 bool pave_corners_pass(double ax, double ay, double bx, double by, double cx, double cy, double dx, double dy);
 
 /* The least corner value of the quad a b c d: at each corner the cross product of its two sides over their lengths. */

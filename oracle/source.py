@@ -85,9 +85,25 @@ MEASURES = [
     (2, "fn project", "std::f64::consts::PI - turn", "bis_len"),
     (2, "fn project", "(alpha / 2.0).sin().abs()", "alpha / 2.0"),
     (2, "fn project", "turn > CORNER_TURN", "turn"),
-    # 4. Every corner value is finite and above the limit; no angle is tested.
-    (4, "fn quad_ok", "s <= 0.02", "s <= crate::quality::CORNER_LIMIT"),
+    # 4. Every corner value is finite and above the limit of the call's job; no angle is tested.
+    (4, "fn quad_ok", "s <= 0.02", "s <= limit"),
     (4, "fn quad_ok", "quality::quad_angles(&cell, points)", "quality::no_angles()"),
+]
+
+# The corner limit, an option of the job and an argument down to the corner test, as (item, old, new).
+CORNER_LIMIT = [
+    ("struct Options", "pub seam: bool,", "pub seam: bool,\n    pub corner_limit: f64,"),
+    ("fn quad_ok", "quad: [usize; 4]", "quad: [usize; 4], limit: f64"),
+    ("fn next_row", "*q)", "*q, options.corner_limit)"),
+    ("fn mesh_with_stats_options", "close_small_fronts(&mut paving", "close_small_fronts(&mut paving, options.corner_limit"),
+    ("fn close_small_fronts", "paving: &mut Paving", "paving: &mut Paving, limit: f64"),
+    ("fn close_small_fronts", "quad_ok(&paving.points, quad", "quad_ok(&paving.points, quad, limit"),
+    ("fn close_small_fronts", "loops[li])", "loops[li], limit)"),
+    ("fn best_six_closure", "ids: &[usize]", "ids: &[usize], limit: f64"),
+    ("fn best_six_closure", "q1) ||", "q1, limit) ||"),
+    ("fn best_six_closure", "q2) {", "q2, limit) {"),
+    ("fn fan_fill", "domain: &Domain", "domain: &Domain, limit: f64"),
+    ("fn fan_fill", "quad_ok(&paving.points, quad", "quad_ok(&paving.points, quad, limit"),
 ]
 
 # The two counts that the port adds, and where a run can stop, as (item, old, new).
@@ -239,7 +255,7 @@ def generate(folder, without=None):
 
     A measure (1 or 2) or the added limits ("limits") can be left out, to show
     what they change."""
-    replacements = [m[1:] for m in MEASURES if m[0] != without] + HOOKS
+    replacements = [m[1:] for m in MEASURES if m[0] != without] + CORNER_LIMIT + HOOKS
     if without != "limits":
         replacements += LIMITS
     for item, old, _ in replacements:

@@ -69,11 +69,11 @@ impl Pages {
         let (nodes, of_fronts) = (self.front_nodes.put(&b.front_nodes, fence), self.front_lengths.put(&b.front_lengths, fence));
         let counts = self.counts.put(&s.counts.list().map(|n| n as u64), fence);
         let (n, loops) = (job.coords.len(), job.lengths.len());
-        let (h, margin, fraction, gap, passes) = (job.h, o.corner_margin, o.min_edge_fraction, o.front_gap, o.max_row_rounds as u64);
+        let (h, margin, fraction, gap, passes, limit) = (job.h, o.corner_margin, o.min_edge_fraction, o.front_gap, o.max_row_rounds as u64, o.corner_limit);
         let number = unsafe {
             match call {
                 Call::Row(front) => calls::pave_row(
-                    coords, n, lengths, loops, h, margin, fraction, gap, passes, o.seam, front as u64, points, np, quads, nq, nodes, nn, of_fronts, nl, counts, 8,
+                    coords, n, lengths, loops, h, margin, fraction, gap, passes, o.seam, limit, front as u64, points, np, quads, nq, nodes, nn, of_fronts, nl, counts, 8,
                 ),
                 other => {
                     let call = match other {
@@ -82,7 +82,7 @@ impl Pages {
                         Call::Close => calls::pave_close,
                         _ => calls::pave_fan,
                     };
-                    call(coords, n, lengths, loops, h, margin, fraction, gap, passes, o.seam, points, np, quads, nq, nodes, nn, of_fronts, nl, counts, 8)
+                    call(coords, n, lengths, loops, h, margin, fraction, gap, passes, o.seam, limit, points, np, quads, nq, nodes, nn, of_fronts, nl, counts, 8)
                 }
             }
         };

@@ -20,27 +20,27 @@ pub mod calls {
         pub fn pave_front_distance(x: f64, y: f64, points: *const f64, n: usize, nodes: *const u16, m: usize) -> f64;
         pub fn pave_sample(
             coords: *const f64, n: usize, lengths: *const u16, loops: usize, h: f64, corner_margin: f64, min_edge_fraction: f64,
-            front_gap: f64, max_row_rounds: u64, seam: bool, points: *mut f64, np: usize, quads: *mut u16, nq: usize,
+            front_gap: f64, max_row_rounds: u64, seam: bool, corner_limit: f64, points: *mut f64, np: usize, quads: *mut u16, nq: usize,
             front_nodes: *mut u16, nn: usize, front_lengths: *mut u16, nl: usize, counts: *mut u64, nc: usize,
         ) -> u32;
         pub fn pave_job(
             coords: *const f64, n: usize, lengths: *const u16, loops: usize, h: f64, corner_margin: f64, min_edge_fraction: f64,
-            front_gap: f64, max_row_rounds: u64, seam: bool, points: *mut f64, np: usize, quads: *mut u16, nq: usize,
+            front_gap: f64, max_row_rounds: u64, seam: bool, corner_limit: f64, points: *mut f64, np: usize, quads: *mut u16, nq: usize,
             front_nodes: *mut u16, nn: usize, front_lengths: *mut u16, nl: usize, counts: *mut u64, nc: usize,
         ) -> u32;
         pub fn pave_row(
             coords: *const f64, n: usize, lengths: *const u16, loops: usize, h: f64, corner_margin: f64, min_edge_fraction: f64,
-            front_gap: f64, max_row_rounds: u64, seam: bool, front: u64, points: *mut f64, np: usize, quads: *mut u16, nq: usize,
-            front_nodes: *mut u16, nn: usize, front_lengths: *mut u16, nl: usize, counts: *mut u64, nc: usize,
+            front_gap: f64, max_row_rounds: u64, seam: bool, corner_limit: f64, front: u64, points: *mut f64, np: usize,
+            quads: *mut u16, nq: usize, front_nodes: *mut u16, nn: usize, front_lengths: *mut u16, nl: usize, counts: *mut u64, nc: usize,
         ) -> u32;
         pub fn pave_close(
             coords: *const f64, n: usize, lengths: *const u16, loops: usize, h: f64, corner_margin: f64, min_edge_fraction: f64,
-            front_gap: f64, max_row_rounds: u64, seam: bool, points: *mut f64, np: usize, quads: *mut u16, nq: usize,
+            front_gap: f64, max_row_rounds: u64, seam: bool, corner_limit: f64, points: *mut f64, np: usize, quads: *mut u16, nq: usize,
             front_nodes: *mut u16, nn: usize, front_lengths: *mut u16, nl: usize, counts: *mut u64, nc: usize,
         ) -> u32;
         pub fn pave_fan(
             coords: *const f64, n: usize, lengths: *const u16, loops: usize, h: f64, corner_margin: f64, min_edge_fraction: f64,
-            front_gap: f64, max_row_rounds: u64, seam: bool, points: *mut f64, np: usize, quads: *mut u16, nq: usize,
+            front_gap: f64, max_row_rounds: u64, seam: bool, corner_limit: f64, points: *mut f64, np: usize, quads: *mut u16, nq: usize,
             front_nodes: *mut u16, nn: usize, front_lengths: *mut u16, nl: usize, counts: *mut u64, nc: usize,
         ) -> u32;
         pub fn pave_in_front(x: f64, y: f64, points: *const f64, n: usize, nodes: *const u16, m: usize) -> bool;
@@ -140,8 +140,8 @@ pub fn sample(job: &PortJob, b: &mut Buffers, counts: &mut [u64]) -> u32 {
     unsafe {
         calls::pave_sample(
             job.coords.as_ptr(), job.coords.len(), job.lengths.as_ptr(), job.lengths.len(), job.h, o.corner_margin, o.min_edge_fraction,
-            o.front_gap, o.max_row_rounds as u64, o.seam, b.points.as_mut_ptr(), b.points.len(), b.quads.as_mut_ptr(), b.quads.len(),
-            b.front_nodes.as_mut_ptr(), b.front_nodes.len(), b.front_lengths.as_mut_ptr(), b.front_lengths.len(), counts.as_mut_ptr(), counts.len(),
+            o.front_gap, o.max_row_rounds as u64, o.seam, o.corner_limit, b.points.as_mut_ptr(), b.points.len(), b.quads.as_mut_ptr(),
+            b.quads.len(), b.front_nodes.as_mut_ptr(), b.front_nodes.len(), b.front_lengths.as_mut_ptr(), b.front_lengths.len(), counts.as_mut_ptr(), counts.len(),
         )
     }
 }
@@ -151,8 +151,8 @@ pub fn job(job: &PortJob, b: &mut Buffers, counts: &mut [u64]) -> u32 {
     unsafe {
         calls::pave_job(
             job.coords.as_ptr(), job.coords.len(), job.lengths.as_ptr(), job.lengths.len(), job.h, o.corner_margin, o.min_edge_fraction,
-            o.front_gap, o.max_row_rounds as u64, o.seam, b.points.as_mut_ptr(), b.points.len(), b.quads.as_mut_ptr(), b.quads.len(),
-            b.front_nodes.as_mut_ptr(), b.front_nodes.len(), b.front_lengths.as_mut_ptr(), b.front_lengths.len(), counts.as_mut_ptr(), counts.len(),
+            o.front_gap, o.max_row_rounds as u64, o.seam, o.corner_limit, b.points.as_mut_ptr(), b.points.len(), b.quads.as_mut_ptr(),
+            b.quads.len(), b.front_nodes.as_mut_ptr(), b.front_nodes.len(), b.front_lengths.as_mut_ptr(), b.front_lengths.len(), counts.as_mut_ptr(), counts.len(),
         )
     }
 }
@@ -162,8 +162,8 @@ pub fn row(job: &PortJob, front: u64, b: &mut Buffers, counts: &mut [u64]) -> u3
     unsafe {
         calls::pave_row(
             job.coords.as_ptr(), job.coords.len(), job.lengths.as_ptr(), job.lengths.len(), job.h, o.corner_margin, o.min_edge_fraction,
-            o.front_gap, o.max_row_rounds as u64, o.seam, front, b.points.as_mut_ptr(), b.points.len(), b.quads.as_mut_ptr(), b.quads.len(),
-            b.front_nodes.as_mut_ptr(), b.front_nodes.len(), b.front_lengths.as_mut_ptr(), b.front_lengths.len(), counts.as_mut_ptr(), counts.len(),
+            o.front_gap, o.max_row_rounds as u64, o.seam, o.corner_limit, front, b.points.as_mut_ptr(), b.points.len(), b.quads.as_mut_ptr(),
+            b.quads.len(), b.front_nodes.as_mut_ptr(), b.front_nodes.len(), b.front_lengths.as_mut_ptr(), b.front_lengths.len(), counts.as_mut_ptr(), counts.len(),
         )
     }
 }
@@ -173,8 +173,8 @@ pub fn close(job: &PortJob, b: &mut Buffers, counts: &mut [u64]) -> u32 {
     unsafe {
         calls::pave_close(
             job.coords.as_ptr(), job.coords.len(), job.lengths.as_ptr(), job.lengths.len(), job.h, o.corner_margin, o.min_edge_fraction,
-            o.front_gap, o.max_row_rounds as u64, o.seam, b.points.as_mut_ptr(), b.points.len(), b.quads.as_mut_ptr(), b.quads.len(),
-            b.front_nodes.as_mut_ptr(), b.front_nodes.len(), b.front_lengths.as_mut_ptr(), b.front_lengths.len(), counts.as_mut_ptr(), counts.len(),
+            o.front_gap, o.max_row_rounds as u64, o.seam, o.corner_limit, b.points.as_mut_ptr(), b.points.len(), b.quads.as_mut_ptr(),
+            b.quads.len(), b.front_nodes.as_mut_ptr(), b.front_nodes.len(), b.front_lengths.as_mut_ptr(), b.front_lengths.len(), counts.as_mut_ptr(), counts.len(),
         )
     }
 }
@@ -184,8 +184,8 @@ pub fn fan(job: &PortJob, b: &mut Buffers, counts: &mut [u64]) -> u32 {
     unsafe {
         calls::pave_fan(
             job.coords.as_ptr(), job.coords.len(), job.lengths.as_ptr(), job.lengths.len(), job.h, o.corner_margin, o.min_edge_fraction,
-            o.front_gap, o.max_row_rounds as u64, o.seam, b.points.as_mut_ptr(), b.points.len(), b.quads.as_mut_ptr(), b.quads.len(),
-            b.front_nodes.as_mut_ptr(), b.front_nodes.len(), b.front_lengths.as_mut_ptr(), b.front_lengths.len(), counts.as_mut_ptr(), counts.len(),
+            o.front_gap, o.max_row_rounds as u64, o.seam, o.corner_limit, b.points.as_mut_ptr(), b.points.len(), b.quads.as_mut_ptr(),
+            b.quads.len(), b.front_nodes.as_mut_ptr(), b.front_nodes.len(), b.front_lengths.as_mut_ptr(), b.front_lengths.len(), counts.as_mut_ptr(), counts.len(),
         )
     }
 }

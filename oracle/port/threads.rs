@@ -51,13 +51,17 @@ struct Keeping;
 static KEPT: AtomicU64 = AtomicU64::new(0);
 
 impl Keeping {
+    fn of(job: &Job) -> u64 {
+        job.h.to_bits() ^ job.options.corner_limit.to_bits()
+    }
+
     fn keep(job: &Job) {
-        KEPT.store(job.h.to_bits(), SeqCst);
+        KEPT.store(Self::of(job), SeqCst);
         std::thread::yield_now();
     }
 
     fn spoil(job: &Job, answer: (u8, Counts)) -> (u8, Counts) {
-        if KEPT.load(SeqCst) == job.h.to_bits() { answer } else { (answer.0 ^ 1, answer.1) }
+        if KEPT.load(SeqCst) == Self::of(job) { answer } else { (answer.0 ^ 1, answer.1) }
     }
 }
 

@@ -29,14 +29,14 @@ pub fn each(seed: u64, count: u64, mut ask: impl FnMut(u64, &'static str, Call, 
         }
         let front = if r.chance(95) { r.below(s.counts.fronts.clamp(1, 17)) } else { r.pick(&[16, usize::MAX]) };
         for call in [Call::Row(front), Call::Close, Call::Fan] {
-            ask(index, kind, call, &job, &s);
+            ask(index, kind, call, &generate::own_limit(r, &job), &s);
         }
         let fan = r.chance(50);
         let mut small = fronts::small(r, &job, fan);
         small.job.lengths.iter_mut().for_each(|n| *n = (*n).min(65_535));
         let (damaged, way) = states::one_fault(r, &small.state);
         for call in [Call::Row(0), Call::Close, Call::Fan] {
-            ask(index, small.kind, call, &small.job, &small.state);
+            ask(index, small.kind, call, &generate::own_limit(r, &small.job), &small.state);
             ask(index, way, call, &small.job, &damaged);
         }
     }

@@ -6,6 +6,7 @@ use crate::cut::alt_paving::{Options, Paving};
 use crate::cut::two_d::Sizing;
 pub use crate::cut::two_d::Domain;
 use crate::limits::{self, Until};
+use crate::quality::CORNER_LIMIT;
 
 /// Lengths of the lent buffers.
 pub const POINTS: usize = 8_192;
@@ -51,7 +52,7 @@ pub struct Job {
     pub options: Options,
 }
 
-/// 2.4, 0.08, 1.2, 32, seam false.
+/// 2.4, 0.08, 1.2, 32, seam false, and the corner limit of 5 degrees.
 pub fn default_options() -> Options {
     Options {
         corner_margin: rust::CORNER_MARGIN,
@@ -59,6 +60,7 @@ pub fn default_options() -> Options {
         front_gap: rust::FRONT_GAP,
         max_row_rounds: rust::MAX_ROW_ROUNDS,
         seam: false,
+        corner_limit: CORNER_LIMIT,
     }
 }
 
@@ -344,11 +346,12 @@ pub fn row(job: &Job, front: usize, buffers: &mut Buffers, counts: Counts) -> (u
 pub struct Ready {
     paving: Paving,
     domain: Domain,
+    corner_limit: f64,
 }
 
 impl Ready {
     pub fn new(job: &Job, buffers: &Buffers, counts: &Counts) -> Result<Ready, u8> {
-        Ok(Ready { paving: state(job, buffers, counts)?, domain: domain_of(job) })
+        Ok(Ready { paving: state(job, buffers, counts)?, domain: domain_of(job), corner_limit: job.options.corner_limit })
     }
 
     /// The Rust's `next_row` and `commit_row` alone; whether a row was laid.
@@ -359,19 +362,19 @@ impl Ready {
 
     /// The Rust's `close_small_fronts` alone; the quads then.
     pub fn close(&mut self) -> usize {
-        rust::close_small_fronts(&mut self.paving);
+        rust::close_small_fronts(&mut self.paving, self.corner_limit);
         self.paving.quads.len()
     }
 
     /// The Rust's `fan_fill` alone, which leaves its centre also when it fails; the number.
     pub fn fan(&mut self) -> u8 {
-        rust::fan_fill(&mut self.paving, &self.domain).map_or_else(|e| number(&e), |()| 0)
+        rust::fan_fill(&mut self.paving, &self.domain, self.corner_limit).map_or_else(|e| number(&e), |()| 0)
     }
 }
 
 fn try_close(job: &Job, buffers: &Buffers, counts: &Counts) -> Result<(Paving, usize), u8> {
     let mut paving = state(job, buffers, counts)?;
-    rust::close_small_fronts(&mut paving);
+    rust::close_small_fronts(&mut paving, job.options.corner_limit);
     if limits::ADDED {
         limits::room(&paving, 0, 0).map_err(|e| number(&e))?;
     }
@@ -389,7 +392,7 @@ fn try_fan(job: &Job, buffers: &Buffers, counts: &Counts) -> Result<(Paving, usi
     if paving.loops.len() > 1 {
         return Err(23);
     }
-    rust::fan_fill(&mut paving, &domain_of(job)).map_err(|e| number(&e))?;
+    rust::fan_fill(&mut paving, &domain_of(job), job.options.corner_limit).map_err(|e| number(&e))?;
     Ok((paving, counts.laid))
 }
 
@@ -408,7 +411,7 @@ fn fan_alone(job: &Job, buffers: &mut Buffers, counts: Counts) -> (u8, Counts) {
         Ok(paving) => paving,
         Err(n) => return (n, counts),
     };
-    let result = rust::fan_fill(&mut paving, &domain_of(job));
+    let result = rust::fan_fill(&mut paving, &domain_of(job), job.options.corner_limit);
     buffers.write(&paving);
     (result.err().map_or(0, |e| number(&e)), counts_of(&paving, counts.passes, counts.laid))
 }

@@ -4,7 +4,9 @@
 use crate::calls::{self, Buffers, Counts, Job};
 use crate::extremes::{self, Reached};
 use crate::fronts;
-use crate::generate::{self, Made, Random};
+use crate::generate::{self, own_limit, Made, Random};
+use crate::limits;
+use crate::quality::CORNER_LIMIT;
 use crate::requests::{job_lines, state_lines, Case};
 use crate::states::{self, State};
 use std::collections::BTreeMap;
@@ -51,6 +53,9 @@ pub struct Report {
     pub seen: BTreeMap<String, u64>,
     /// The most of something in one answer.
     pub most: BTreeMap<&'static str, usize>,
+    /// Of each call, how many had another valid corner limit than the default, and how many of their answers are not those that
+    /// the default limit gives on the same input.
+    pub limits: BTreeMap<&'static str, [u64; 2]>,
     pub different: u64,
     pub differences: Vec<String>,
     /// The first of them, with what was given.
@@ -81,6 +86,18 @@ impl Report {
         self.numbers().get(call).map(list).unwrap_or_default()
     }
 
+    /// What the corner limits of one call changed.
+    pub fn limits_of(&self, call: &str) -> String {
+        let [other, changed] = self.limits.get(call).copied().unwrap_or_default();
+        format!("{other} with another valid limit than the default, {changed} of their answers changed by it")
+    }
+
+    /// Those of some calls of which no answer was changed by its corner limit. A sampling's never is.
+    pub fn unchanged<'a>(&self, calls: impl IntoIterator<Item = &'a str>) -> Vec<&'a str> {
+        let changed = |call: &str| self.limits.get(call).is_some_and(|n| n[1] > 0);
+        calls.into_iter().filter(|call| *call != "sample" && !changed(call)).collect()
+    }
+
     /// What another report has, added to this one.
     pub fn add(&mut self, other: Report) {
         for (what, numbers) in other.compared {
@@ -89,6 +106,10 @@ impl Report {
         }
         other.seen.into_iter().for_each(|(what, n)| self.see_many(what, n));
         other.most.into_iter().for_each(|(what, n)| self.at_most(what, n));
+        for (call, n) in other.limits {
+            let here = self.limits.entry(call).or_default();
+            *here = [here[0] + n[0], here[1] + n[1]];
+        }
         self.different += other.different;
         self.differences.extend(other.differences);
         self.first = self.first.take().or(other.first);
@@ -110,6 +131,7 @@ impl Report {
         }
         for (call, numbers) in self.numbers() {
             out += &format!("numbers of {call}: {}\n", list(&numbers));
+            out += &format!("limits of {call}: {}\n", self.limits_of(call));
         }
         if !self.seen.is_empty() {
             let words: Vec<String> = self.seen.iter().map(|(what, n)| format!("{what} {n}")).collect();
@@ -222,6 +244,12 @@ pub fn both(report: &mut Report, port: &mut dyn Paver, call: Call, job: &Job, s:
     *report.compared.entry(format!("{word}, {kind}")).or_default().entry(a.0).or_insert(0) += 1;
     report.oracle_time += a.2;
     report.port_time += b.2;
+    let limit = job.options.corner_limit;
+    if limits::corner_limit(limit) && limit != CORNER_LIMIT {
+        let changed = report.limits.entry(word).or_default();
+        changed[0] += 1;
+        changed[1] += difference(&a, &perform(&mut Oracle, call, &with_limit(job, CORNER_LIMIT), s)).is_some() as u64;
+    }
     if let Some(d) = difference(&a, &b) {
         report.different += 1;
         report.first.get_or_insert_with(|| Case { call, job: job.clone(), state: s.clone() });
@@ -231,6 +259,13 @@ pub fn both(report: &mut Report, port: &mut dyn Paver, call: Call, job: &Job, s:
         }
     }
     (a.0, a.1)
+}
+
+/// The same job with another corner limit.
+pub fn with_limit(job: &Job, limit: f64) -> Job {
+    let mut job = job.clone();
+    job.options.corner_limit = limit;
+    job
 }
 
 /// Loop lengths that a u16 cannot hold become the largest that it can.
@@ -261,7 +296,8 @@ pub fn samples(port: &mut dyn Paver, seed: u64, count: u64) -> Report {
 pub const ROW_NUMBERS: [u8; 11] = [0, 1, 2, 3, 4, 5, 6, 20, 21, 22, 25];
 
 /// `count` states and a row on a front of each: from sampled plates row after row on every front until one is refused,
-/// then, from the state so reached, near a limit, of another job, and damaged in every way that number 25 names.
+/// then, from the state so reached, near a limit, of another job, and damaged in every way that number 25 names. Each row has the
+/// corner limit of its job or one of its own.
 pub fn rows(port: &mut dyn Paver, seed: u64, count: u64) -> Report {
     let mut report = Report::default();
     let mut left = count;
@@ -276,16 +312,17 @@ pub fn rows(port: &mut dyn Paver, seed: u64, count: u64) -> Report {
         let mut s = State { buffers: Buffers::new(), counts: Counts::default() };
         let (number, counts) = calls::sample(&made.job, &mut s.buffers);
         s.counts = counts;
-        let mut ask = |job: &Job, s: &State, front: usize, kind: &str| {
+        let mut ask = |r: &mut Random, s: &State, front: usize, kind: &str| {
             left = left.saturating_sub(1);
-            both(&mut report, port, Call::Row(front), job, s, kind, &name).1
+            both(&mut report, port, Call::Row(front), &own_limit(r, &made.job), s, kind, &name).1
         };
         // one of the states on which a row was laid, each as likely as another
         let mut ready = None;
         let mut laid = 0;
         for front in 0..s.counts.fronts {
             loop {
-                let after = ask(&made.job, &states::with_noise(r, &s), front, "row after row");
+                let given = states::with_noise(r, &s);
+                let after = ask(r, &given, front, "row after row");
                 if after.counts.quads == s.counts.quads {
                     break;
                 }
@@ -300,23 +337,24 @@ pub fn rows(port: &mut dyn Paver, seed: u64, count: u64) -> Report {
             let (start, front) = ready.unwrap_or((s.clone(), r.below(s.counts.fronts)));
             let mut full = start.clone();
             states::fill_up(r, &mut full);
-            ask(&made.job, &full, front, "near a limit");
+            ask(r, &full, front, "near a limit");
             for _ in 0..2 {
                 let (damaged, way) = states::one_fault(r, &start);
-                ask(&made.job, &damaged, front, way);
+                ask(r, &damaged, front, way);
             }
         }
         if made.job.lengths.first().is_some_and(|&n| n > 0 && 2 * n <= made.job.xy.len()) {
             let hand = states::by_hand(r, &made.job);
-            let fronts = hand.counts.fronts;
-            ask(&made.job, &states::with_noise(r, &hand), r.below(fronts), "fronts by hand");
+            let (given, front) = (states::with_noise(r, &hand), r.below(hand.counts.fronts));
+            ask(r, &given, front, "fronts by hand");
         }
         let fronts = s.counts.fronts;
-        ask(&made.job, &s, r.pick(&[fronts, fronts + 1, 16, usize::MAX]), "no such front");
+        let front = r.pick(&[fronts, fronts + 1, 16, usize::MAX]);
+        ask(r, &s, front, "no such front");
         if r.chance(5) {
             let mut short = s.clone();
             states::shorten(r, &mut short.buffers);
-            ask(&made.job, &short, 0, "a buffer's length");
+            ask(r, &short, 0, "a buffer's length");
         }
     }
     report
@@ -357,7 +395,8 @@ const SMALL: usize = 16;
 const ROWS_UP_TO: usize = 300;
 
 /// One call on what a job left, on its sampled loops as they are and after rows, and on small fronts; each of these now and
-/// then damaged in one of the ways that number 25 names. Behind the counts stands noise.
+/// then damaged in one of the ways that number 25 names. Behind the counts stands noise. The call has the job's corner limit or
+/// one of its own.
 fn on_states(port: &mut dyn Paver, call: Call, seed: u64, count: u64) -> Report {
     let mut report = Report::default();
     let mut left = count;
@@ -381,11 +420,12 @@ fn on_states(port: &mut dyn Paver, call: Call, seed: u64, count: u64) -> Report 
                 }
                 _ => {}
             }
-            let (number, after) = both(&mut report, port, call, job, &given, kind, &name);
+            let job = own_limit(r, job);
+            let (number, after) = both(&mut report, port, call, &job, &given, kind, &name);
             if number == 0 && call == Call::Close {
-                see_closings(&mut report, &given, &after);
+                see_closings(&mut report, job.options.corner_limit, &given, &after);
             } else if number == 0 {
-                see_fan(&mut report, job, &given, &after);
+                see_fan(&mut report, &job, &given, &after);
             }
         };
         let mut s = State { buffers: Buffers::new(), counts: Counts::default() };
@@ -413,12 +453,12 @@ fn on_states(port: &mut dyn Paver, call: Call, seed: u64, count: u64) -> Report 
 }
 
 /// Which fronts were closed, and how often two splits tied.
-fn see_closings(report: &mut Report, before: &State, after: &State) {
+fn see_closings(report: &mut Report, limit: f64, before: &State, after: &State) {
     let b = &before.buffers;
     let mut added = 0;
     for front in b.fronts(&before.counts) {
         let n = front.len();
-        let closed = fronts::closing(b, &front, false).len();
+        let closed = fronts::closing(b, &front, limit, false).len();
         added += closed;
         match (n, closed) {
             (4 | 6, 0) => report.see(format!("{n} nodes kept")),
@@ -426,7 +466,7 @@ fn see_closings(report: &mut Report, before: &State, after: &State) {
             _ => report.see("others kept"),
         }
         if n == 6 {
-            let values = fronts::splits(b, &front).map(|split| split.1);
+            let values = fronts::splits(b, &front, limit).map(|split| split.1);
             let best = values.iter().flatten().copied().fold(f64::NEG_INFINITY, f64::max);
             if [(0, 1), (0, 2), (1, 2)].into_iter().any(|(i, j)| values[i].is_some() && values[i] == values[j]) {
                 report.see("6 nodes, splits tied");
@@ -484,7 +524,7 @@ pub fn run(port: &mut dyn Paver, seed: u64, count: u64) -> Report {
 }
 
 /// A job into buffers that held anything; then on what it left, with anything behind, a fan, rows on two fronts and the
-/// closings; then the three on another state.
+/// closings; then the three on another state. Each of these has the job's corner limit or one of its own.
 pub fn job_and_after(report: &mut Report, port: &mut dyn Paver, mut made: Made, from: &'static str, seed: u64, index: u64) {
     narrow(&mut made.job);
     let r = &mut Random::new(seed ^ 0xC0FFEE, index);
@@ -502,12 +542,13 @@ pub fn job_and_after(report: &mut Report, port: &mut dyn Paver, mut made: Made, 
         let held = states::with_noise(r, &answer);
         let fronts = answer.counts.fronts;
         let first = r.below(fronts.max(1));
-        both(report, port, Call::Fan, &made.job, &held, "on the answer", &name);
-        both(report, port, Call::Row(first), &made.job, &held, "on the answer", &name);
+        let mut calls = vec![Call::Fan, Call::Row(first), Call::Close];
         if fronts > 1 {
-            both(report, port, Call::Row((first + 1) % fronts), &made.job, &held, "on the answer", &name);
+            calls.insert(2, Call::Row((first + 1) % fronts));
         }
-        both(report, port, Call::Close, &made.job, &held, "on the answer", &name);
+        for call in calls {
+            both(report, port, call, &own_limit(r, &made.job), &held, "on the answer", &name);
+        }
     }
     let (mut s, kind) = states::state(r, &made.job, &answer);
     if r.chance(2) {
@@ -516,7 +557,7 @@ pub fn job_and_after(report: &mut Report, port: &mut dyn Paver, mut made: Made, 
     let fronts = s.counts.fronts.clamp(1, 17);
     let front = if r.chance(95) { r.below(fronts) } else { r.pick(&[fronts, 16, usize::MAX]) };
     for call in [Call::Row(front), Call::Close, Call::Fan] {
-        both(report, port, call, &made.job, &s, kind, &name);
+        both(report, port, call, &own_limit(r, &made.job), &s, kind, &name);
     }
 }
 

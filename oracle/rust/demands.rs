@@ -1,16 +1,19 @@
 //! Demand 3 pitted against a paver, the oracle itself or the port: each pair of
 //! nodes counted never or twice over sampled loops, quads and remaining fronts;
-//! the corner test on the answer's points; the prefix under two pass limits. In
-//! each answer, after further rows and closings, and after each fan granted.
+//! the corner test on the answer's points, of each quad with the limit of the call
+//! that laid it; the prefix under two pass limits. In each answer, after further
+//! rows and closings, and after each fan granted, whose limits are now and then
+//! other than the job's.
 
 use crate::calls::{self, Buffers, Counts, Job};
-use crate::compare::Paver;
-use crate::functions::quad_ok;
+use crate::compare::{with_limit, Paver};
+use crate::functions::{least_corner, quad_passes, Point};
 use crate::extremes;
-use crate::generate::{self, Random};
-use crate::limits::MAX_PASSES;
+use crate::generate::{self, own_limit, Random};
+use crate::limits::{corner_limit, MAX_PASSES};
 use crate::requests::job_lines;
 use std::collections::BTreeMap;
+use std::ops::Range;
 
 #[derive(Default)]
 pub struct Report {
@@ -35,10 +38,34 @@ impl Report {
     }
 }
 
-/// A state as the calls give it.
+/// A state as the calls give it, and of each quad the corner limit of the call that laid it.
+#[derive(Clone)]
 struct State {
     buffers: Buffers,
     counts: Counts,
+    limits: Vec<f64>,
+}
+
+impl State {
+    fn empty() -> State {
+        State { buffers: Buffers::new(), counts: Counts::default(), limits: Vec::new() }
+    }
+
+    /// The counts that a call left: the quads that are new are the call's.
+    fn left(&mut self, counts: Counts, job: &Job) {
+        self.counts = counts;
+        self.limits.resize(counts.quads, job.options.corner_limit);
+    }
+
+    /// The points of quad i.
+    fn at(&self, i: usize) -> [Point; 4] {
+        self.buffers.quad(i).map(|node| self.buffers.point(node))
+    }
+
+    /// Whether some quads all pass a limit.
+    fn all_pass(&self, mut quads: Range<usize>, limit: f64) -> bool {
+        quads.all(|i| quad_passes(self.at(i), limit))
+    }
 }
 
 fn add_ring(sides: &mut Vec<(usize, usize)>, ring: &[usize]) {
@@ -64,9 +91,9 @@ fn faults(loops: &[Vec<usize>], sampled: &State, s: &State) -> Option<String> {
     if let Some((pair, n)) = bad_pair(loops, &quads, &s.buffers.fronts(&s.counts)) {
         return Some(format!("the pair {pair:?} counts {n} times"));
     }
-    for q in &quads {
-        if !quad_ok(q.map(|node| s.buffers.point(node))) {
-            return Some(format!("the quad {q:?} fails the corner test"));
+    for (i, &limit) in s.limits.iter().enumerate() {
+        if !quad_passes(s.at(i), limit) {
+            return Some(format!("the quad {:?} fails the corner test with the limit {limit:?}", quads[i]));
         }
     }
     if !first_points(sampled, s) {
@@ -98,51 +125,91 @@ fn with_passes(job: &Job, passes: usize) -> Job {
 }
 
 fn whole(p: &mut dyn Paver, job: &Job) -> (u8, State) {
-    let mut buffers = Buffers::new();
-    let (n, counts) = p.job(job, &mut buffers);
-    (n, State { buffers, counts })
+    let mut s = State::empty();
+    let (n, counts) = p.job(job, &mut s.buffers);
+    s.left(counts, job);
+    (n, s)
 }
 
-/// The fan of an answer, and demand 3 after it.
-fn fan(p: &mut dyn Paver, report: &mut Report, job: &Job, loops: &[Vec<usize>], sampled: &State, s: &State) -> Option<String> {
-    let mut after = State { buffers: s.buffers.clone(), counts: s.counts };
-    let (n, counts) = p.fan(job, &mut after.buffers, s.counts);
-    after.counts = counts;
-    if n != 0 {
-        report.count(format!("fans refused: {n:02}"), 1);
-        if !after.buffers.same(&s.buffers) || counts != s.counts {
-            return Some(format!("a fan refused with {n} changed the state"));
+fn sampling(p: &mut dyn Paver, job: &Job) -> (u8, State) {
+    let mut s = State::empty();
+    let (n, counts) = p.sample(job, &mut s.buffers);
+    s.left(counts, job);
+    (n, s)
+}
+
+/// The fan of an answer, with the job's corner limit or one of its own, and demand 3 after it. A fan that is granted is asked for
+/// again, with the least corner value of its quads as the limit, which gives 27, and with the f64 below that, which grants it.
+fn fan(
+    p: &mut dyn Paver, report: &mut Report, r: &mut Random, job: &Job, loops: &[Vec<usize>], sampled: &State, s: &State,
+) -> Option<String> {
+    let of_job = job.options.corner_limit;
+    let mut asked = vec![(own_limit(r, job).options.corner_limit, None)];
+    while let Some((limit, wanted)) = asked.pop() {
+        let mut after = s.clone();
+        let job = with_limit(job, limit);
+        let (n, counts) = p.fan(&job, &mut after.buffers, s.counts);
+        after.left(counts, &job);
+        if wanted.is_some_and(|wanted| n != wanted) {
+            return Some(format!("a fan with the limit {limit:?} answers {n}"));
         }
-        return None;
+        let again = if wanted.is_some() { " at the limit" } else { "" };
+        if n != 0 {
+            report.count(format!("fans refused{again}: {n:02}"), 1);
+            if !after.buffers.same(&s.buffers) || counts != s.counts {
+                return Some(format!("a fan refused with {n} changed the state"));
+            }
+            continue;
+        }
+        if let Some(fault) = faults(loops, sampled, &after) {
+            return Some(format!("after a fan {fault}"));
+        }
+        if s.counts.fronts == 0 {
+            report.count("fans with no front", 1);
+            continue;
+        }
+        report.count(format!("fans granted{again}"), 1);
+        let fanned = s.counts.quads..counts.quads;
+        if limit != of_job {
+            let what = "fans granted with another limit than the job's";
+            report.count(what, 1);
+            report.count(format!("{what}, where a quad that was there fails the fan's"), !after.all_pass(0..s.counts.quads, limit) as u64);
+            report.count(format!("{what}, where a quad of the fan fails the job's"), !after.all_pass(fanned.clone(), of_job) as u64);
+        }
+        if wanted.is_none() {
+            let least = fanned.map(|i| least_corner(after.at(i))).fold(f64::INFINITY, f64::min);
+            asked.extend([(least, Some(27)), (least.next_down(), Some(0))].into_iter().filter(|(limit, _)| corner_limit(*limit)));
+        }
     }
-    report.count(if s.counts.fronts == 0 { "fans with no front" } else { "fans granted" }, 1);
-    faults(loops, sampled, &after).map(|fault| format!("after a fan {fault}"))
+    None
 }
 
-/// Rows by single calls, then the closings: demand 3 after each, and the fan.
+/// Rows by single calls, then the closings: demand 3 after each, and the fan. Each with the job's corner limit or one of its own.
 fn single_calls(
     p: &mut dyn Paver, report: &mut Report, r: &mut Random, job: &Job, loops: &[Vec<usize>], sampled: &State, start: &State,
 ) -> Option<String> {
-    let mut s = State { buffers: start.buffers.clone(), counts: start.counts };
+    let mut s = start.clone();
     for _ in 0..3 {
         if s.counts.fronts == 0 {
             break;
         }
         let front = r.below(s.counts.fronts);
+        let job = &own_limit(r, job);
         let (n, counts) = p.row(job, front, &mut s.buffers, s.counts);
-        s.counts = counts;
+        s.left(counts, job);
         report.count(if n == 0 { "row calls granted".to_string() } else { format!("row calls refused: {n:02}") }, 1);
         if let Some(fault) = faults(loops, sampled, &s) {
             return Some(format!("after a row call {fault}"));
         }
     }
-    let (n, counts) = p.close(job, &mut s.buffers, s.counts);
-    s.counts = counts;
+    let own = &own_limit(r, job);
+    let (n, counts) = p.close(own, &mut s.buffers, s.counts);
+    s.left(counts, own);
     report.count(if n == 0 { "closing calls granted".to_string() } else { format!("closing calls refused: {n:02}") }, 1);
     if let Some(fault) = faults(loops, sampled, &s) {
         return Some(format!("after a closing call {fault}"));
     }
-    fan(p, report, job, loops, sampled, &s)
+    fan(p, report, r, job, loops, sampled, &s)
 }
 
 /// One job under the pass limits `less` and `more`.
@@ -153,13 +220,11 @@ fn check(p: &mut dyn Paver, report: &mut Report, r: &mut Random, job: &Job, less
     if n != m && n != 21 {
         return Some(format!("numbers {m} and {n} under {less} and {more} passes"));
     }
-    let mut buffers = Buffers::new();
-    let (k, counts) = p.sample(job, &mut buffers);
-    let sampled = State { buffers, counts };
+    let (k, sampled) = sampling(p, job);
     if k != 0 {
         return if k == n { None } else { Some(format!("sampling answers {k}, the job {n}")) };
     }
-    let loops = sampled.buffers.fronts(&counts);
+    let loops = sampled.buffers.fronts(&sampled.counts);
     for (number, s) in [(n, &large), (m, &small)] {
         if number != 0 {
             continue;
@@ -168,7 +233,7 @@ fn check(p: &mut dyn Paver, report: &mut Report, r: &mut Random, job: &Job, less
         if let Some(fault) = faults(&loops, &sampled, s) {
             return Some(fault);
         }
-        if let Some(fault) = fan(p, report, job, &loops, &sampled, s) {
+        if let Some(fault) = fan(p, report, r, job, &loops, &sampled, s) {
             return Some(fault);
         }
         if let Some(fault) = single_calls(p, report, r, job, &loops, &sampled, s) {
@@ -189,7 +254,7 @@ fn check(p: &mut dyn Paver, report: &mut Report, r: &mut Random, job: &Job, less
         if large.counts.points > 4_000 {
             report.count("accepted jobs over 4,000 points", 1);
         }
-        if counts.points > 2_000 {
+        if sampled.counts.points > 2_000 {
             report.count("accepted jobs over 2,000 sampled nodes", 1);
         }
     }
@@ -205,15 +270,13 @@ fn check(p: &mut dyn Paver, report: &mut Report, r: &mut Random, job: &Job, less
     None
 }
 
-/// A plate of 2 rows, changed in one place each time: every change must be seen.
+/// A plate of 2 rows, changed in one place each time, and a fan with another limit than its job: every change must be seen.
 fn tried(p: &mut dyn Paver) -> Report {
     let xy = (0..40).flat_map(|k| generate::on_circle(k as f64, 40.0)).map(|c| 6_400.0 * c).collect();
     let mut job = Job { xy, lengths: vec![40], h: 1_000.0, options: calls::default_options() };
     job.options.max_row_rounds = 2;
-    let mut buffers = Buffers::new();
-    let (_, counts) = p.sample(&job, &mut buffers);
-    let sampled = State { buffers, counts };
-    let loops = sampled.buffers.fronts(&counts);
+    let (_, sampled) = sampling(p, &job);
+    let loops = sampled.buffers.fronts(&sampled.counts);
     let (n, right) = whole(p, &job);
     let last = right.counts.quads - 1;
     let mut report = Report::default();
@@ -225,13 +288,14 @@ fn tried(p: &mut dyn Paver) -> Report {
     };
     see("none", n == 0 && right.counts.row_rounds == 2 && faults(&loops, &sampled, &right).is_none());
     let mut altered = |what: &str, change: &dyn Fn(&mut State)| {
-        let mut s = State { buffers: right.buffers.clone(), counts: right.counts };
+        let mut s = right.clone();
         change(&mut s);
         see(what, faults(&loops, &sampled, &s).is_some());
     };
     altered("a quad less", &|s| {
         s.counts.quads -= 1;
         s.counts.row_quads -= 1;
+        s.limits.pop();
     });
     altered("a quad twice", &|s| s.buffers.quads.copy_within(4 * last - 4..4 * last, 4 * last));
     altered("the spent front used again", &|s| {
@@ -247,12 +311,29 @@ fn tried(p: &mut dyn Paver) -> Report {
     });
     let (_, small) = whole(p, &with_passes(&job, 1));
     see("a prefix", prefix(&small, &right) && !prefix(&right, &small));
-    let mut s = State { buffers: small.buffers.clone(), counts: small.counts };
+    let mut s = small.clone();
     s.buffers.points[2 * s.counts.points - 1] += 1e-9;
     see("a prefix's point moved", !prefix(&s, &right));
-    let mut s = State { buffers: small.buffers.clone(), counts: small.counts };
+    let mut s = small.clone();
     s.buffers.quads.swap(0, 1);
     see("a prefix's quad changed", !prefix(&s, &right));
+    // an octagon of 8 nodes: the job closes its narrow hole, whose corner values are 0.32, and the fan's are from 0.70 on
+    let mut xy: Vec<f64> = (0..8).flat_map(|k| generate::on_circle(k as f64, 8.0)).map(|c| 6_400.0 * c).collect();
+    xy.extend([2_000.0, 0.0, 2_600.0, 100.0, 3_200.0, 0.0, 2_600.0, -100.0]);
+    let low = with_limit(&Job { xy, lengths: vec![8, 4], h: 10_000.0, options: calls::default_options() }, 0.1);
+    let high = with_limit(&low, 0.5);
+    let (_, sampled) = sampling(p, &low);
+    let loops = sampled.buffers.fronts(&sampled.counts);
+    let (_, mut s) = whole(p, &low);
+    let (n, counts) = p.fan(&high, &mut s.buffers, s.counts);
+    s.left(counts, &high);
+    see("none, after a fan with another limit than the job's", n == 0 && s.limits == [0.1, 0.5, 0.5, 0.5, 0.5] && faults(&loops, &sampled, &s).is_none());
+    let mut tested_with = |what: &str, of_job: f64, of_fan: f64| {
+        s.limits = vec![of_job, of_fan, of_fan, of_fan, of_fan];
+        see(what, faults(&loops, &sampled, &s).is_some());
+    };
+    tested_with("a job's quad tested with the fan's limit", 0.5, 0.5);
+    tested_with("a fan's quad that passes a lower limit alone", 0.1, 0.8);
     report
 }
 

@@ -2,7 +2,7 @@
 
 use crate::calls::{self, default_options, Buffers, Counts, Job};
 use crate::functions::{Front, Point};
-use crate::generate::{on_circle, Made, Random};
+use crate::generate::{corner_limit, on_circle, Made, Random};
 use crate::limits::{MAX_LOOPS, MAX_PAIRS, MAX_PASSES, MAX_PLANNED, MAX_POINTS};
 use crate::states::State;
 
@@ -333,5 +333,6 @@ pub fn near(seed: u64, index: u64) -> Made {
     if r.chance(20) {
         job.options.min_edge_fraction = r.pick(&[0.0, 0.5]);
     }
+    job.options.corner_limit = corner_limit(r);
     Made { job, shape: "near a limit", change }
 }

@@ -1,10 +1,12 @@
-//! Pavers that each go wrong in one thing, in the closings or in the fan: a comparison that does not see it shows nothing.
+//! Pavers that each go wrong in one thing, in the closings, in the fan or in the corner limit: a comparison that does not see it
+//! shows nothing.
 
 use crate::calls::{self, Buffers, Counts, Job};
-use crate::compare::{Oracle, Paver};
+use crate::compare::{with_limit, Oracle, Paver};
 use crate::fronts;
 use crate::functions::Point;
-use crate::limits::{MAX_POINTS, MAX_QUADS};
+use crate::limits::{self, MAX_POINTS, MAX_QUADS};
+use crate::quality::CORNER_LIMIT;
 
 pub const CLOSE_FAULTS: [&str; 8] = [
     "the last split on a tie",
@@ -17,7 +19,7 @@ pub const CLOSE_FAULTS: [&str; 8] = [
     "a front of four kept",
 ];
 
-pub const FAN_FAULTS: [&str; 11] = [
+pub const FAN_FAULTS: [&str; 12] = [
     "y outermost",
     "the last grid point on a tie",
     "the centre left after 27",
@@ -29,6 +31,15 @@ pub const FAN_FAULTS: [&str; 11] = [
     "a quad not turned",
     "refused at 4,096 points or quads",
     "zeros not written with no front",
+    "a quad that was there tested too",
+];
+
+pub const LIMIT_FAULTS: [&str; 5] = [
+    "the default limit in a job",
+    "the default limit in a row",
+    "the default limit in the closings",
+    "the default limit in a fan",
+    "the limit of the job before in a fan",
 ];
 
 /// The oracle with one of the faults, by its place in either list.
@@ -68,17 +79,18 @@ impl Paver for Slip {
             return (n, c);
         }
         let fronts = old.fronts(&before);
+        let limit = job.options.corner_limit;
         let asked: usize = fronts.iter().map(|f| if f.len() == 4 { 1 } else if f.len() == 6 { 2 } else { 0 }).sum();
         match self.0 {
-            0 => put(b, before.quads, fronts.iter().flat_map(|f| fronts::closing(&old, f, true))),
+            0 => put(b, before.quads, fronts.iter().flat_map(|f| fronts::closing(&old, f, limit, true))),
             1 => {
                 let quads = fronts.iter().flat_map(|f| {
-                    let quads = fronts::closing(&old, f, false);
+                    let quads = fronts::closing(&old, f, limit, false);
                     if quads.len() == 1 { vec![[f[0], f[1], f[2], f[3]]] } else { quads }
                 });
                 put(b, before.quads, quads);
             }
-            2 => put(b, before.quads, fronts.iter().rev().flat_map(|f| fronts::closing(&old, f, false))),
+            2 => put(b, before.quads, fronts.iter().rev().flat_map(|f| fronts::closing(&old, f, limit, false))),
             3 => c.laid = c.quads,
             4 => (c.row_quads, c.core_quads) = (before.row_quads, before.core_quads + c.quads - before.quads),
             5 | 6 => {
@@ -114,6 +126,7 @@ impl Paver for Slip {
             }
             return (n, c);
         };
+        let limit = job.options.corner_limit;
         let room = before.points < MAX_POINTS && before.quads + front.len() / 2 <= MAX_QUADS;
         match (self.0, n) {
             (0 | 1, 0) => {
@@ -138,7 +151,7 @@ impl Paver for Slip {
                 let (p, _) = centre_of(job, &old, &before, front);
                 with.points[2 * before.points..2 * before.points + 2].copy_from_slice(&p);
                 let quads = fan_quads(before.points, front);
-                if !quads.into_iter().all(|q| fronts::passes(&with, fronts::turned(&with, q))) {
+                if !quads.into_iter().all(|q| fronts::passes(&with, fronts::turned(&with, q), limit)) {
                     return (27, c);
                 }
             }
@@ -149,8 +162,50 @@ impl Paver for Slip {
                 *b = old;
                 return (21, before);
             }
+            (11, 0) if !(0..before.quads).all(|i| fronts::passes(&old, old.quad(i), limit)) => {
+                *b = old;
+                return (27, before);
+            }
             _ => {}
         }
         (n, c)
+    }
+}
+
+/// The oracle with one of the limit's faults; a limit outside its range stays.
+pub struct OtherLimit {
+    which: usize,
+    before: f64,
+}
+
+impl OtherLimit {
+    pub fn new(which: usize) -> OtherLimit {
+        OtherLimit { which, before: CORNER_LIMIT }
+    }
+
+    fn given(job: &Job, wrong: bool, limit: f64) -> Job {
+        if wrong && limits::corner_limit(job.options.corner_limit) { with_limit(job, limit) } else { job.clone() }
+    }
+}
+
+impl Paver for OtherLimit {
+    fn sample(&mut self, job: &Job, b: &mut Buffers) -> (u8, Counts) {
+        Oracle.sample(job, b)
+    }
+    fn job(&mut self, job: &Job, b: &mut Buffers) -> (u8, Counts) {
+        if limits::corner_limit(job.options.corner_limit) {
+            self.before = job.options.corner_limit;
+        }
+        Oracle.job(&Self::given(job, self.which == 0, CORNER_LIMIT), b)
+    }
+    fn row(&mut self, job: &Job, front: usize, b: &mut Buffers, c: Counts) -> (u8, Counts) {
+        Oracle.row(&Self::given(job, self.which == 1, CORNER_LIMIT), front, b, c)
+    }
+    fn close(&mut self, job: &Job, b: &mut Buffers, c: Counts) -> (u8, Counts) {
+        Oracle.close(&Self::given(job, self.which == 2, CORNER_LIMIT), b, c)
+    }
+    fn fan(&mut self, job: &Job, b: &mut Buffers, c: Counts) -> (u8, Counts) {
+        let limit = if self.which == 3 { CORNER_LIMIT } else { self.before };
+        Oracle.fan(&Self::given(job, self.which >= 3, limit), b, c)
     }
 }

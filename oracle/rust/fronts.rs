@@ -6,6 +6,7 @@ use crate::functions::{self, Front, Plate, Point};
 use crate::generate::{self, on_circle, Random};
 use crate::limits::{MAX_FRONT_NODES, MAX_POINTS, MAX_QUADS, MOST_COORDINATE};
 use crate::states::State;
+use crate::Options;
 
 /// A call's job and state, and what the state is.
 pub struct Small {
@@ -178,7 +179,8 @@ fn roomy(r: &mut Random, centre: Point, reach: f64) -> Job {
         lengths.push(4);
     }
     let xy = loops.into_iter().flatten().map(|x| x.clamp(-MOST_COORDINATE, MOST_COORDINATE)).collect();
-    Job { xy, lengths, h: 1.0, options: default_options() }
+    let options = Options { corner_limit: generate::corner_limit(r), ..default_options() };
+    Job { xy, lengths, h: 1.0, options }
 }
 
 /// A state with these fronts: their nodes numbered in turn or in any order, other points and quads beside them.
@@ -341,31 +343,31 @@ pub fn turned(b: &Buffers, mut q: [usize; 4]) -> [usize; 4] {
     q
 }
 
-pub fn passes(b: &Buffers, q: [usize; 4]) -> bool {
-    functions::quad_ok(quad_at(b, q))
+pub fn passes(b: &Buffers, q: [usize; 4], limit: f64) -> bool {
+    functions::quad_passes(quad_at(b, q), limit)
 }
 
-/// The three splits of six nodes, and the least corner value of those that pass.
-pub fn splits(b: &Buffers, front: &[usize]) -> [([[usize; 4]; 2], Option<f64>); 3] {
+/// The three splits of six nodes, and the least corner value of those that pass the limit.
+pub fn splits(b: &Buffers, front: &[usize], limit: f64) -> [([[usize; 4]; 2], Option<f64>); 3] {
     [0, 1, 2].map(|shift| {
         let v = |i: usize| front[(i + shift) % 6];
         let quads = [turned(b, [v(0), v(1), v(2), v(3)]), turned(b, [v(0), v(3), v(4), v(5)])];
-        let good = quads.iter().all(|&q| passes(b, q));
+        let good = quads.iter().all(|&q| passes(b, q, limit));
         let least = || quads.iter().map(|&q| functions::least_corner(quad_at(b, q))).fold(f64::INFINITY, f64::min);
         (quads, good.then(least))
     })
 }
 
 /// The quads that close a front, none when it is kept; `last` takes the last split on a tie.
-pub fn closing(b: &Buffers, front: &[usize], last: bool) -> Vec<[usize; 4]> {
+pub fn closing(b: &Buffers, front: &[usize], limit: f64, last: bool) -> Vec<[usize; 4]> {
     match front.len() {
         4 => {
             let q = turned(b, [front[0], front[1], front[2], front[3]]);
-            if passes(b, q) { vec![q] } else { Vec::new() }
+            if passes(b, q, limit) { vec![q] } else { Vec::new() }
         }
         6 => {
             let mut best: Option<([[usize; 4]; 2], f64)> = None;
-            for (quads, value) in splits(b, front) {
+            for (quads, value) in splits(b, front, limit) {
                 let Some(value) = value else { continue };
                 if best.is_none_or(|(_, kept)| value > kept || last && value == kept) {
                     best = Some((quads, value));

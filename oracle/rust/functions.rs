@@ -150,10 +150,15 @@ pub fn corner_values(q: [Point; 4]) -> [f64; 4] {
     quality::corner_values(q)
 }
 
-/// The corner test.
+/// The corner test with the default limit.
 pub fn quad_ok(q: [Point; 4]) -> bool {
+    quad_passes(q, quality::CORNER_LIMIT)
+}
+
+/// The corner test with a limit.
+pub fn quad_passes(q: [Point; 4], limit: f64) -> bool {
     let points = q.map(|p| [p[0], p[1], 0.0]);
-    rust::quad_ok(&points, [0, 1, 2, 3])
+    rust::quad_ok(&points, [0, 1, 2, 3], limit)
 }
 
 pub fn signed_quad_area(q: [Point; 4]) -> f64 {

@@ -1,7 +1,8 @@
 //! Jobs from a seed: job `index` of a seed is always the same.
 
 use crate::calls::{self, default_options, Buffers, Job};
-use crate::limits;
+use crate::limits::{self, LEAST_CORNER_LIMIT, MOST_CORNER_LIMIT};
+use crate::quality::CORNER_LIMIT;
 use crate::Options;
 
 /// splitmix64.
@@ -328,6 +329,29 @@ fn options(r: &mut Random) -> Options {
     o
 }
 
+/// A corner limit: the default in a third, else one within the limits, and seldom one outside.
+pub fn corner_limit(r: &mut Random) -> f64 {
+    const OUTSIDE: [f64; 8] = [f64::NAN, f64::INFINITY, f64::NEG_INFINITY, 0.0, -0.0, -0.5, 1.0, 5e-324];
+    match r.below(100) {
+        0..=33 => CORNER_LIMIT,
+        34..=41 => LEAST_CORNER_LIMIT,
+        42..=49 => MOST_CORNER_LIMIT,
+        50 => r.pick(&[LEAST_CORNER_LIMIT.next_up(), MOST_CORNER_LIMIT.next_down()]),
+        51 => r.pick(&[LEAST_CORNER_LIMIT.next_down(), MOST_CORNER_LIMIT.next_up()]),
+        52 => r.pick(&OUTSIDE),
+        _ => r.between(LEAST_CORNER_LIMIT, MOST_CORNER_LIMIT),
+    }
+}
+
+/// The job of a call on a state: now and then with a corner limit of its own.
+pub fn own_limit(r: &mut Random, job: &Job) -> Job {
+    let mut job = job.clone();
+    if r.chance(40) {
+        job.options.corner_limit = corner_limit(r);
+    }
+    job
+}
+
 /// A size near the least that is not refused with the given number.
 fn just_under(r: &mut Random, job: &mut Job, refused: u8, low: f64, high: f64, steps: usize) {
     let (mut low, mut high) = (low.max(limits::LEAST_SIZE), high.max(limits::LEAST_SIZE));
@@ -439,7 +463,14 @@ pub fn small_job(seed: u64, index: u64) -> Made {
     made(seed, index, Sizes::Small)
 }
 
+/// The corner limit is drawn apart: the rest of a job is the same without it.
 fn made(seed: u64, index: u64, sizes: Sizes) -> Made {
+    let mut made = with_default_limit(seed, index, sizes);
+    made.job.options.corner_limit = corner_limit(&mut Random::new(seed ^ 0xC0421, index));
+    made
+}
+
+fn with_default_limit(seed: u64, index: u64, sizes: Sizes) -> Made {
     let r = &mut Random::new(seed, index);
     let shape_name = r.pick(&SHAPES);
     if shape_name == "ties" {

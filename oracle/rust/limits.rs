@@ -19,6 +19,8 @@ pub const MAX_PLANNED: usize = 2_048;
 pub const MAX_PASSES: usize = 64;
 pub const LEAST_SIZE: f64 = 0.001;
 pub const MOST_SIZE: f64 = 1_000_000.0;
+pub const LEAST_CORNER_LIMIT: f64 = 0.02;
+pub const MOST_CORNER_LIMIT: f64 = 0.9;
 pub const MOST_COORDINATE: f64 = 1_000_000.0;
 pub const MOST_STATE_COORDINATE: f64 = 1_000_000_000.0;
 
@@ -59,6 +61,11 @@ fn within(x: f64, least: f64, most: f64) -> bool {
     least <= x && x <= most
 }
 
+/// Whether number 3 allows a corner limit.
+pub fn corner_limit(limit: f64) -> bool {
+    within(limit, LEAST_CORNER_LIMIT, MOST_CORNER_LIMIT)
+}
+
 /// Number 3.
 pub fn options(h: f64, o: &Options) -> Result<(), String> {
     let fits = within(h, LEAST_SIZE, MOST_SIZE)
@@ -66,7 +73,8 @@ pub fn options(h: f64, o: &Options) -> Result<(), String> {
         && within(o.front_gap, 0.0, 100.0)
         && within(o.min_edge_fraction, 0.0, 1.0)
         && o.max_row_rounds <= MAX_PASSES
-        && !o.seam;
+        && !o.seam
+        && corner_limit(o.corner_limit);
     if fits { Ok(()) } else { Err("limit 3".to_string()) }
 }
 

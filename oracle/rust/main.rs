@@ -95,6 +95,21 @@ fn main() {
                 for (i, name) in slips.iter().enumerate() {
                     faulty(&mut faults::Slip(i), name, true);
                 }
+                let limits: &[usize] = match what {
+                    "whole" => &[0, 1, 2, 3, 4],
+                    "rows" => &[1],
+                    "closings" => &[2],
+                    "fan" => &[3],
+                    _ => &[],
+                };
+                for &i in limits {
+                    faulty(&mut faults::OtherLimit::new(i), faults::LIMIT_FAULTS[i], true);
+                }
+            }
+            for (i, name) in faults::LIMIT_FAULTS.iter().enumerate() {
+                let n = demands::run(&mut faults::OtherLimit::new(i), seed, count.max(LEAST_STATES)).exceptions.len();
+                print(&format!("demand 3, {name}: {n} exceptions\n"));
+                bad |= n == 0;
             }
             let count = count.max(LEAST_TEXTS);
             let mut same = |text: &[u8]| text::pave(text).into_bytes();

@@ -3,16 +3,16 @@
 use crate::calls::Job;
 use crate::extremes::equal_lengths;
 use crate::functions::{point_in_polygon, project, segment_length, segments_cross, signed_area, Front, Plate, Point};
-use crate::limits::{LEAST_SIZE, MOST_COORDINATE, MOST_SIZE};
+use crate::limits::{LEAST_CORNER_LIMIT, LEAST_SIZE, MOST_COORDINATE, MOST_CORNER_LIMIT, MOST_SIZE};
 use crate::states::State;
 
 /// Pairs of points up to which loops are looked at, and sampled nodes up to which fronts are.
 pub const SMALL: usize = 64;
 
 /// All that can be said.
-pub const ALL: [&str; 21] = [
+pub const ALL: [&str; 23] = [
     "coordinate at 1,000,000", "size 0.001", "size 1,000,000", "corner_margin 0", "corner_margin 100", "min_edge_fraction 0",
-    "min_edge_fraction 1", "front_gap 0", "front_gap 100", "0 passes", "64 passes", "16 loops", "a hole turned",
+    "min_edge_fraction 1", "front_gap 0", "front_gap 100", "0 passes", "64 passes", "corner_limit 0.02", "corner_limit 0.9", "16 loops", "a hole turned",
     "a loop that touches itself", "a loop that crosses itself", "a hole across the outline", "a hole outside the outline",
     "fronts of equal length", "distance to the boundary met", "length of a new side met", "distance to another front met",
 ];
@@ -53,6 +53,8 @@ pub fn met(job: &Job, sampled: &State) -> Vec<&'static str> {
     say("front_gap 100", o.front_gap == 100.0);
     say("0 passes", o.max_row_rounds == 0);
     say("64 passes", o.max_row_rounds == 64);
+    say("corner_limit 0.02", o.corner_limit == LEAST_CORNER_LIMIT);
+    say("corner_limit 0.9", o.corner_limit == MOST_CORNER_LIMIT);
     say("16 loops", job.lengths.len() == 16);
     let mut pairs = job.xy.chunks_exact(2).map(|p| [p[0], p[1]]);
     let loops: Vec<Vec<Point>> = job.lengths.iter().map(|&n| pairs.by_ref().take(n).collect()).collect();

@@ -5,7 +5,7 @@ use crate::calls::{default_options, Job};
 use crate::extremes;
 use crate::functions::Point;
 use crate::generate::{self, Made, Random};
-use crate::limits::{LEAST_SIZE, MOST_COORDINATE, MOST_SIZE};
+use crate::limits::{LEAST_CORNER_LIMIT, LEAST_SIZE, MOST_COORDINATE, MOST_CORNER_LIMIT, MOST_SIZE};
 
 /// Job `index` of a seed.
 pub fn job(seed: u64, index: u64) -> Made {
@@ -70,6 +70,7 @@ fn options(r: &mut Random, job: &mut Job) {
     o.min_edge_fraction = r.pick(&[0.0, 0.0, 0.08, 1.0]);
     o.front_gap = r.pick(&[0.0, 0.0, 1.2, 100.0]);
     o.max_row_rounds = r.pick(&[0, 1, 64, 64, 64]);
+    o.corner_limit = r.pick(&[LEAST_CORNER_LIMIT, LEAST_CORNER_LIMIT, default_options().corner_limit, MOST_CORNER_LIMIT]);
 }
 
 /// Each hole put anywhere about the outline, across it or outside.
@@ -137,5 +138,6 @@ fn exact(r: &mut Random) -> Made {
         }
     };
     set_loops(&mut job, loops);
+    job.options.corner_limit = generate::corner_limit(r);
     Made { job, shape: "exact", change }
 }

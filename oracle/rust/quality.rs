@@ -3,7 +3,7 @@
 
 use crate::cut::mesh::{Cell, Node};
 
-/// Above this a corner value passes: between 5 and 175 degrees.
+/// The default corner limit: above it a corner value is that of an angle between 5 and 175 degrees.
 pub const CORNER_LIMIT: f64 = 0.08715574274765817;
 
 /// A turn above 30 degrees to either side.

@@ -5,6 +5,7 @@ use crate::calls::{self, default_options, Buffers, Counts, Job};
 use crate::compare::Call;
 use crate::requests::Case;
 use crate::states::State;
+use crate::Options;
 
 /// A state as lists, when its counts allow that.
 #[derive(Clone)]
@@ -55,6 +56,7 @@ enum Step {
     Points(usize, usize, usize),
     Default(usize),
     Limit(usize, f64),
+    OptionDigits(usize, usize),
     Passes(usize),
     Shift(usize),
     Scale(f64, usize),
@@ -100,11 +102,15 @@ fn sound(job: &Job) -> bool {
     job.xy.len() % 2 == 0 && job.lengths.iter().sum::<usize>() == job.xy.len() / 2
 }
 
+/// The options that are f64; 3 and 4 are the passes and seam.
+const FLOATS: [usize; 4] = [0, 1, 2, 5];
+
 fn option(job: &mut Job, k: usize) -> &mut f64 {
     match k {
         0 => &mut job.options.corner_margin,
         1 => &mut job.options.min_edge_fraction,
-        _ => &mut job.options.front_gap,
+        2 => &mut job.options.front_gap,
+        _ => &mut job.options.corner_limit,
     }
 }
 
@@ -168,6 +174,10 @@ fn changed(case: &Case, step: Step) -> Option<Case> {
             }
         }
         Step::Limit(k, x) => *option(&mut c.job, k) = x,
+        Step::OptionDigits(k, digits) => {
+            let place = option(&mut c.job, k);
+            *place = rounded(*place, digits);
+        }
         Step::Passes(n) => c.job.options.max_row_rounds = n,
         Step::Shift(digits) => {
             let (x, y) = (*c.job.xy.first()?, *c.job.xy.get(1)?);
@@ -274,8 +284,10 @@ fn steps(case: &Case) -> Vec<Step> {
             parts(n, |from, n| out.push(Step::Points(i, from, n)));
         }
     }
-    out.extend((0..5).map(Step::Default));
+    out.extend((0..6).map(Step::Default));
     out.extend((0..3).flat_map(|k| [0.0, 1.0, 100.0].map(|x| Step::Limit(k, x))));
+    out.extend([0.5, 0.9, 0.02].map(|x| Step::Limit(5, x)));
+    out.extend(FLOATS.into_iter().flat_map(|k| (0..16).map(move |digits| Step::OptionDigits(k, digits))));
     out.extend([0, 1, 2, 3, 4, 8, 16].map(Step::Passes));
     out.extend((0..ALL_DIGITS).map(Step::Shift));
     out.extend([1.0, 1_000.0].into_iter().flat_map(|size| (0..ALL_DIGITS).map(move |digits| Step::Scale(size, digits))));
@@ -313,14 +325,15 @@ fn weight(case: &Case) -> (usize, usize, usize) {
     let job = &case.job;
     let o = &job.options;
     let d = default_options();
-    let other = [o.corner_margin != d.corner_margin, o.min_edge_fraction != d.min_edge_fraction, o.front_gap != d.front_gap, o.max_row_rounds != d.max_row_rounds, o.seam];
-    let mut things = job.lengths.len() + job.xy.len() + other.into_iter().filter(|o| *o).count();
+    let floats = |o: &Options| [o.corner_margin, o.min_edge_fraction, o.front_gap, o.corner_limit];
+    let others = floats(o).into_iter().zip(floats(&d)).filter(|(x, y)| x != y).count() + (o.max_row_rounds != d.max_row_rounds) as usize + o.seam as usize;
+    let mut things = job.lengths.len() + job.xy.len() + others;
     let mut held = case.state.buffers.points.iter().filter(|x| x.to_bits() != 0).count();
     let b = &case.state.buffers;
     held += [&b.quads, &b.front_nodes, &b.front_lengths].into_iter().flatten().filter(|x| **x != 0).count();
     held += !b.fits() as usize + !sound(job) as usize;
     let mut long: usize = digits(job.h) + job.xy.iter().map(|&x| digits(x)).sum::<usize>();
-    long += [o.corner_margin, o.min_edge_fraction, o.front_gap].into_iter().map(digits).sum::<usize>() + o.max_row_rounds;
+    long += floats(o).into_iter().map(digits).sum::<usize>() + o.max_row_rounds;
     if on_a_state(case.call) {
         let c = &case.state.counts;
         things += c.points.min(1 << 20) + c.quads.min(1 << 20) + c.fronts.min(1 << 20) + c.list()[3..].iter().filter(|n| **n != 0).count();

@@ -9,7 +9,7 @@
 //!     call NAME NUMBER..                          one line, no `end` awaited
 //!
 //!     size H
-//!     options CORNER_MARGIN MIN_EDGE_FRACTION FRONT_GAP PASSES SEAM    (left out: the defaults)
+//!     options CORNER_MARGIN MIN_EDGE_FRACTION FRONT_GAP PASSES SEAM CORNER_LIMIT    (left out: the defaults)
 //!     outer | hole
 //!     at X Y
 //!     counts POINTS QUADS FRONTS ROW_QUADS CORE_QUADS ROW_ROUNDS PASSES LAID
@@ -20,13 +20,15 @@
 //!     more X ..              further coordinates
 //!     lent P Q N L           lengths of the lent buffers other than document 01's
 //!
+//! Options of five fields, without CORNER_LIMIT, are read too and have the default limit; none are written so.
 //! After `refused`, a row, the closings and the fan say with `left` which counts the state then has.
 
 use crate::calls::{self, default_options, Buffers, Counts, Job};
 use crate::compare::Call;
 use crate::functions as f;
+use crate::quality::CORNER_LIMIT;
 use crate::states::State;
-use crate::text;
+use crate::{text, Options};
 
 /// One call with all that it is given.
 #[derive(Clone)]
@@ -61,9 +63,9 @@ pub fn by_bits(x: f64) -> String {
 pub fn job_lines(job: &Job) -> String {
     let o = &job.options;
     let mut out = format!(
-        "size\t{}\noptions\t{}\t{}\t{}\t{}\t{}\n",
+        "size\t{}\noptions\t{}\t{}\t{}\t{}\t{}\t{}\n",
         by_bits(job.h), by_bits(o.corner_margin), by_bits(o.min_edge_fraction),
-        by_bits(o.front_gap), o.max_row_rounds, o.seam
+        by_bits(o.front_gap), o.max_row_rounds, o.seam, by_bits(o.corner_limit)
     );
     let mut pairs = job.xy.chunks_exact(2);
     for (i, &n) in job.lengths.iter().enumerate() {
@@ -115,13 +117,14 @@ impl Body {
         let rest = &fields[1..];
         match (fields[0], rest.len()) {
             ("size", 1) => self.job.h = number(rest[0])?,
-            ("options", 5) => {
+            ("options", 5 | 6) => {
                 let o = &mut self.job.options;
                 o.corner_margin = number(rest[0])?;
                 o.min_edge_fraction = number(rest[1])?;
                 o.front_gap = number(rest[2])?;
                 o.max_row_rounds = natural(rest[3])?;
                 o.seam = rest[4] == "true";
+                o.corner_limit = rest.get(5).map_or(Ok(CORNER_LIMIT), |field| number(field))?;
             }
             ("outer", 0) | ("hole", 0) => self.job.lengths.push(0),
             ("at", 2) => {
@@ -280,9 +283,14 @@ fn shortest(x: f64) -> String {
     }
 }
 
+fn options(o: &Options) -> String {
+    let lengths = [o.corner_margin, o.min_edge_fraction, o.front_gap].map(shortest).join("\t");
+    format!("{lengths}\t{}\t{}\t{}", o.max_row_rounds, o.seam, shortest(o.corner_limit))
+}
+
 /// A case as a request, in decimals. What stands behind the counts is not in it.
 pub fn request(case: &Case) -> String {
-    let (job, o) = (&case.job, &case.job.options);
+    let job = &case.job;
     let head = match case.call {
         Call::Sample => "sample".to_string(),
         Call::Job => "job".to_string(),
@@ -291,10 +299,9 @@ pub fn request(case: &Case) -> String {
         Call::Fan => "fan".to_string(),
     };
     let mut out = format!("{head}\nsize\t{}\n", shortest(job.h));
-    let list = [shortest(o.corner_margin), shortest(o.min_edge_fraction), shortest(o.front_gap), o.max_row_rounds.to_string(), o.seam.to_string()];
-    let d = default_options();
-    if list != [shortest(d.corner_margin), shortest(d.min_edge_fraction), shortest(d.front_gap), d.max_row_rounds.to_string(), d.seam.to_string()] {
-        out += &format!("options\t{}\n", list.join("\t"));
+    let list = options(&job.options);
+    if list != options(&default_options()) {
+        out += &format!("options\t{list}\n");
     }
     let sound = job.xy.len() % 2 == 0 && job.lengths.iter().map(|&n| n as u128).sum::<u128>() == (job.xy.len() / 2) as u128;
     let mut pairs = job.xy.chunks_exact(2);

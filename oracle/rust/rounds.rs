@@ -55,6 +55,7 @@ impl Rounds {
         let mut out = String::new();
         for (k, report) in self.reports().into_iter().enumerate() {
             out += &format!("{} {}, {} different: {}\n", WORDS[k], report.all(), report.different, report.numbers_of(CALLS[k]));
+            out += &format!("    {}\n", report.limits_of(CALLS[k]));
         }
         for kind in further {
             out += &(kind.line() + "\n");
@@ -74,6 +75,7 @@ impl Rounds {
         let mut out = Vec::new();
         for (k, report) in self.reports().into_iter().enumerate() {
             out.extend(report.missing(CALLS[k], numbers_of(k)).iter().map(|n| format!("the number {n} from {}", WORDS[k])));
+            out.extend(report.unchanged([CALLS[k]]).iter().map(|_| format!("an answer of {} that its corner limit changed", WORDS[k])));
         }
         let [_, closings, fans] = &self.states;
         let unseen = self.jobs.unseen(&met::ALL).into_iter().chain(closings.unseen(&compare::CLOSE_SEEN)).chain(fans.unseen(&compare::FAN_SEEN));

@@ -1,9 +1,11 @@
 //! A paver with one deliberate fault under a condition, to see that a run ends at it and what the input is reduced to.
 
 use crate::calls::{Buffers, Counts, Job};
-use crate::compare::Paver;
+use crate::compare::{with_limit, Paver};
+use crate::limits::{corner_limit, MOST_CORNER_LIMIT};
+use crate::quality::CORNER_LIMIT;
 
-pub const WRONGS: [&str; 9] = [
+pub const WRONGS: [&str; 11] = [
     "the last bit of a point, after a job with a hole and two rows or more",
     "a row on a front of eight nodes is refused with 22",
     "the two quads of a closed front of six are exchanged",
@@ -13,6 +15,8 @@ pub const WRONGS: [&str; 9] = [
     "8 in place of 7",
     "a fan reads behind its counts",
     "a buffer of another length is let through when it is that of the front lengths",
+    "the closings have the default corner limit",
+    "a corner limit of 0.9 is refused with 3",
 ];
 
 pub struct Wrong<P> {
@@ -30,6 +34,9 @@ impl<P: Paver> Paver for Wrong<P> {
     }
 
     fn job(&mut self, job: &Job, b: &mut Buffers) -> (u8, Counts) {
+        if self.which == 10 && job.options.corner_limit == MOST_CORNER_LIMIT {
+            return self.inner.job(&with_limit(job, 1.0), b);
+        }
         let (mut n, mut c) = self.inner.job(job, b);
         match self.which {
             0 if n == 0 && job.lengths.len() > 1 && c.row_rounds > 1 => flip(&mut b.points[2 * c.points - 1]),
@@ -53,7 +60,8 @@ impl<P: Paver> Paver for Wrong<P> {
     }
 
     fn close(&mut self, job: &Job, b: &mut Buffers, before: Counts) -> (u8, Counts) {
-        let (n, c) = self.inner.close(job, b, before);
+        let limit = if self.which == 9 && corner_limit(job.options.corner_limit) { CORNER_LIMIT } else { job.options.corner_limit };
+        let (n, c) = self.inner.close(&with_limit(job, limit), b, before);
         if self.which == 2 && n == 0 && c.fronts < before.fronts && c.quads == before.quads + 2 * (before.fronts - c.fronts) {
             let at = 4 * before.quads;
             (0..4).for_each(|k| b.quads.swap(at + k, at + 4 + k));

@@ -5,7 +5,6 @@ ghost use Rattle.input.specs.Job.{job};
 ghost use Rattle.rules.specs.Calls.{closeCall};
 use crate::step::close_small_fronts;
 use input::Options;
-use input::corner_limit;
 use input::input_number;
 use state::Answer;
 use state::Counts;
@@ -48,7 +47,7 @@ pub fn close(
         front_nodes,
         front_lengths,
         counts,
-        corner_limit(),
+        options.corner_limit,
         false,
     )
 }

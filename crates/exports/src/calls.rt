@@ -19,6 +19,7 @@ pub extern "C" fn pave_sample(
     front_gap: f64,
     max_row_rounds: u64,
     seam: bool,
+    corner_limit: f64,
     points: &mut [f64],
     quads: &mut [u16],
     front_nodes: &mut [u16],
@@ -27,7 +28,7 @@ pub extern "C" fn pave_sample(
 ) -> u32
     ensures { λ r. ⌜ passed r (now (points .exit)) (now (quads .exit)) (now («front_nodes» .exit)) (now («front_lengths» .exit)) (now (counts .exit))
         ≡ jobPassed
-        (sampleCall (job (now (coords .entry)) (now («loop_lengths» .entry)) h (optionsOf «corner_margin» «min_edge_fraction» «front_gap» «max_row_rounds» seam))
+        (sampleCall (job (now (coords .entry)) (now («loop_lengths» .entry)) h (optionsOf «corner_margin» «min_edge_fraction» «front_gap» «max_row_rounds» seam «corner_limit»))
         (lengthsOf (length (now (points .entry))) (length (now (quads .entry))) (length (now («front_nodes» .entry))) (length (now («front_lengths» .entry)))))
         (lengthsOf (length (now (points .entry))) (length (now (quads .entry))) (length (now («front_nodes» .entry))) (length (now («front_lengths» .entry)))) (length (now (counts .entry))) ⌝ }
 {
@@ -42,6 +43,7 @@ pub extern "C" fn pave_sample(
         front_gap,
         max_row_rounds,
         seam,
+        corner_limit,
     );
     let answer = sampling::sample(
         coords,
@@ -67,6 +69,7 @@ pub extern "C" fn pave_job(
     front_gap: f64,
     max_row_rounds: u64,
     seam: bool,
+    corner_limit: f64,
     points: &mut [f64],
     quads: &mut [u16],
     front_nodes: &mut [u16],
@@ -75,7 +78,7 @@ pub extern "C" fn pave_job(
 ) -> u32
     ensures { λ r. ⌜ passed r (now (points .exit)) (now (quads .exit)) (now («front_nodes» .exit)) (now («front_lengths» .exit)) (now (counts .exit))
         ≡ jobPassed
-        (jobCall (job (now (coords .entry)) (now («loop_lengths» .entry)) h (optionsOf «corner_margin» «min_edge_fraction» «front_gap» «max_row_rounds» seam))
+        (jobCall (job (now (coords .entry)) (now («loop_lengths» .entry)) h (optionsOf «corner_margin» «min_edge_fraction» «front_gap» «max_row_rounds» seam «corner_limit»))
         (lengthsOf (length (now (points .entry))) (length (now (quads .entry))) (length (now («front_nodes» .entry))) (length (now («front_lengths» .entry)))))
         (lengthsOf (length (now (points .entry))) (length (now (quads .entry))) (length (now («front_nodes» .entry))) (length (now («front_lengths» .entry)))) (length (now (counts .entry))) ⌝ }
 {
@@ -90,6 +93,7 @@ pub extern "C" fn pave_job(
         front_gap,
         max_row_rounds,
         seam,
+        corner_limit,
     );
     let answer = job::job(
         coords,

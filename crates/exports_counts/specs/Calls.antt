@@ -10,8 +10,15 @@ use Rattle.state.specs.State.{Held, Lengths, zeros}
 use Rattle.state.specs.Call.{Left, held, numberOf}
 use Rattle.input.specs.declared.Options.{Options}
 
-abbrev pub optionsOf : Float → Float → Float → ℕ → Bool → Options
-optionsOf margin edge gap rounds s = record { «corner_margin» = margin; «min_edge_fraction» = edge; «front_gap» = gap; «max_row_rounds» = rounds; seam = s }
+abbrev pub optionsOf : Float → Float → Float → ℕ → Bool → Float → Options
+optionsOf margin edge gap rounds s limit = record {
+  «corner_margin» = margin;
+  «min_edge_fraction» = edge;
+  «front_gap» = gap;
+  «max_row_rounds» = rounds;
+  seam = s;
+  «corner_limit» = limit;
+}
 
 -- ---- the counts as a slice, in document 01's order
 

@@ -9,8 +9,9 @@ pub fn options_of(
     front_gap: f64,
     max_row_rounds: u64,
     seam: bool,
+    corner_limit: f64,
 ) -> Options
-    ensures { λ r. ⌜ r ≡ optionsOf «corner_margin» «min_edge_fraction» «front_gap» «max_row_rounds» seam ⌝ }
+    ensures { λ r. ⌜ r ≡ optionsOf «corner_margin» «min_edge_fraction» «front_gap» «max_row_rounds» seam «corner_limit» ⌝ }
 {
     Options {
         corner_margin,
@@ -18,5 +19,6 @@ pub fn options_of(
         front_gap,
         max_row_rounds,
         seam,
+        corner_limit,
     }
 }

@@ -3,7 +3,7 @@
 ghost use mathlib.Core.Path.{_≡_};
 ghost use Rattle.float.specs.Root.{root};
 ghost use Rattle.geometry.specs.Measures as geometryMeasures;
-ghost use Rattle.input.specs.Limit.{cornerLimit};
+ghost use Rattle.input.specs.Limit.{defaultLimit};
 ghost use Rattle.exports_geometry.specs.Measures.{point, ring, sharpOrNot};
 use geometry::Point;
 
@@ -78,14 +78,14 @@ pub extern "C" fn pave_corners_pass(
     dx: f64,
     dy: f64,
 ) -> bool
-    ensures { λ r. ⌜ r ≡ geometryMeasures.cornersPass cornerLimit (point ax ay) (point bx by) (point cx cy) (point dx dy) ⌝ }
+    ensures { λ r. ⌜ r ≡ geometryMeasures.cornersPass defaultLimit (point ax ay) (point bx by) (point cx cy) (point dx dy) ⌝ }
 {
     geometry::corners_pass(
         Point { x: ax, y: ay },
         Point { x: bx, y: by },
         Point { x: cx, y: cy },
         Point { x: dx, y: dy },
-        input::corner_limit(),
+        input::default_limit(),
     )
 }
 

@@ -17,6 +17,7 @@ pub extern "C" fn pave_row(
     front_gap: f64,
     max_row_rounds: u64,
     seam: bool,
+    corner_limit: f64,
     front: u64,
     points: &mut [f64],
     quads: &mut [u16],
@@ -26,7 +27,7 @@ pub extern "C" fn pave_row(
 ) -> u32
     ensures { λ r. ⌜ passed r (now (points .exit)) (now (quads .exit)) (now («front_nodes» .exit)) (now («front_lengths» .exit)) (now (counts .exit))
         ≡ statePassed
-        (rowCall (job (now (coords .entry)) (now («loop_lengths» .entry)) h (optionsOf «corner_margin» «min_edge_fraction» «front_gap» «max_row_rounds» seam)) front)
+        (rowCall (job (now (coords .entry)) (now («loop_lengths» .entry)) h (optionsOf «corner_margin» «min_edge_fraction» «front_gap» «max_row_rounds» seam «corner_limit»)) front)
         (now (points .entry)) (now (quads .entry)) (now («front_nodes» .entry)) (now («front_lengths» .entry)) (now (counts .entry)) ⌝ }
 {
     if counts.len() != 8 {
@@ -39,6 +40,7 @@ pub extern "C" fn pave_row(
         front_gap,
         max_row_rounds,
         seam,
+        corner_limit,
     );
     let answer = row::row(
         coords,
@@ -66,6 +68,7 @@ pub extern "C" fn pave_close(
     front_gap: f64,
     max_row_rounds: u64,
     seam: bool,
+    corner_limit: f64,
     points: &mut [f64],
     quads: &mut [u16],
     front_nodes: &mut [u16],
@@ -74,7 +77,7 @@ pub extern "C" fn pave_close(
 ) -> u32
     ensures { λ r. ⌜ passed r (now (points .exit)) (now (quads .exit)) (now («front_nodes» .exit)) (now («front_lengths» .exit)) (now (counts .exit))
         ≡ statePassed
-        (closeCall (job (now (coords .entry)) (now («loop_lengths» .entry)) h (optionsOf «corner_margin» «min_edge_fraction» «front_gap» «max_row_rounds» seam)))
+        (closeCall (job (now (coords .entry)) (now («loop_lengths» .entry)) h (optionsOf «corner_margin» «min_edge_fraction» «front_gap» «max_row_rounds» seam «corner_limit»)))
         (now (points .entry)) (now (quads .entry)) (now («front_nodes» .entry)) (now («front_lengths» .entry)) (now (counts .entry)) ⌝ }
 {
     if counts.len() != 8 {
@@ -87,6 +90,7 @@ pub extern "C" fn pave_close(
         front_gap,
         max_row_rounds,
         seam,
+        corner_limit,
     );
     let answer = closing::close(
         coords,
@@ -113,6 +117,7 @@ pub extern "C" fn pave_fan(
     front_gap: f64,
     max_row_rounds: u64,
     seam: bool,
+    corner_limit: f64,
     points: &mut [f64],
     quads: &mut [u16],
     front_nodes: &mut [u16],
@@ -121,7 +126,7 @@ pub extern "C" fn pave_fan(
 ) -> u32
     ensures { λ r. ⌜ passed r (now (points .exit)) (now (quads .exit)) (now («front_nodes» .exit)) (now («front_lengths» .exit)) (now (counts .exit))
         ≡ statePassed
-        (fanCall (job (now (coords .entry)) (now («loop_lengths» .entry)) h (optionsOf «corner_margin» «min_edge_fraction» «front_gap» «max_row_rounds» seam)))
+        (fanCall (job (now (coords .entry)) (now («loop_lengths» .entry)) h (optionsOf «corner_margin» «min_edge_fraction» «front_gap» «max_row_rounds» seam «corner_limit»)))
         (now (points .entry)) (now (quads .entry)) (now («front_nodes» .entry)) (now («front_lengths» .entry)) (now (counts .entry)) ⌝ }
 {
     if counts.len() != 8 {
@@ -134,6 +139,7 @@ pub extern "C" fn pave_fan(
         front_gap,
         max_row_rounds,
         seam,
+        corner_limit,
     );
     let answer = fan::fan(
         coords,

@@ -49,7 +49,7 @@ pub fn fan(
         front_nodes,
         front_lengths,
         counts,
-        input::corner_limit(),
+        options.corner_limit,
         false,
     )
 }

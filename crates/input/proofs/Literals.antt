@@ -22,3 +22,13 @@ hundred-is = refl
 pub limit-is : ofBits binary64 4590944653792149762 ≡ decimal 8715574274765817 17
 unfolding round ofBits
 limit-is = refl
+
+-- 0.02
+pub fiftieth-is : ofBits binary64 0x3F947AE147AE147B ≡ decimal 2 2
+unfolding round ofBits
+fiftieth-is = refl
+
+-- 0.9
+pub nine-tenths-is : ofBits binary64 0x3FECCCCCCCCCCCCD ≡ decimal 9 1
+unfolding round ofBits
+nine-tenths-is = refl

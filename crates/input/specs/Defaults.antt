@@ -1,7 +1,8 @@
--- The default options of document 01: 2.4, 0.08, 1.2, 32, seam false. The function `defaults` makes them of the constants of `Options`. Definitions only.
+-- The default options of document 01: 2.4, 0.08, 1.2, 32, seam false, and the corner limit that was its constant. The function `defaults` makes them of the constants of `Options`. Definitions only.
 use mathlib.Core.Bool.{false}
 use Rattle.float.specs.Helpers.{decimal}
 use Rattle.input.specs.declared.Options.{Options}
+use Rattle.input.specs.Limit.{defaultLimit}
 
 abbrev pub defaults : Options
 defaults = record {
@@ -10,4 +11,5 @@ defaults = record {
   «front_gap» = decimal 12 1;
   «max_row_rounds» = 32;
   seam = false;
+  «corner_limit» = defaultLimit;
 }

@@ -46,10 +46,12 @@ wrongShape j l =
 unfoldable pub wrongSize : Float → Bool
 wrongSize h = not (isFinite h) || le h (decimal 0 0)
 
+-- h or an option is outside its range, or seam is true; a NaN is outside. The corner limit goes from 0.02 to 0.9 (document 02, change 1)
 unfoldable pub wrongOptions : Float → Options → Bool
 wrongOptions h o =
     outside (decimal 1 3) (decimal 1000000 0) h || outside (decimal 0 0) (decimal 100 0) (o .«corner_margin») || outside (decimal 0 0) (decimal 100 0) (o .«front_gap»)
     || outside (decimal 0 0) (decimal 1 0) (o .«min_edge_fraction») || ltb 64 (o .«max_row_rounds») || o .seam
+    || outside (decimal 2 2) (decimal 9 1) (o .«corner_limit»)
 
 -- numbers 1 to 6
 unfoldable pub inputNumber : Job → Lengths → ℕ

@@ -83,7 +83,10 @@ fn wrong_options(h: f64, options: Options) -> bool
     if 64 < options.max_row_rounds {
         return true;
     }
-    options.seam
+    if options.seam {
+        return true;
+    }
+    outside(0.02, 0.9, options.corner_limit)
 }
 
 pub fn input_number(

@@ -1,19 +1,21 @@
 // A job's input: the options, and the numbers 1 to 6 of document 01. Every call tests its job by `input_number`.
 ghost use mathlib.Core.Path.{_≡_};
 ghost use Rattle.input.specs.Defaults as options;
-ghost use Rattle.input.specs.Limit.{cornerLimit};
+ghost use Rattle.input.specs.Limit.{defaultLimit};
 
 mod input;
 
 pub use input::input_number;
 
-// The Rust's `Options`, by value: margins, fractions and gaps in sizes h, the limit of passes, and `seam`.
+// The Rust's `Options`, by value: margins, fractions and gaps in sizes h, the limit of passes, and `seam`; and the
+// corner limit, which every corner value of a quad has to be above.
 pub struct Options {
     pub corner_margin: f64,
     pub min_edge_fraction: f64,
     pub front_gap: f64,
     pub max_row_rounds: u64,
     pub seam: bool,
+    pub corner_limit: f64,
 }
 
 impl Options {
@@ -38,12 +40,13 @@ pub fn defaults() -> Options
         front_gap: Options::FRONT_GAP,
         max_row_rounds: Options::MAX_ROW_ROUNDS,
         seam: false,
+        corner_limit: Options::CORNER_LIMIT,
     }
 }
 
-// What every corner value of a quad has to be above.
-pub fn corner_limit() -> f64
-    ensures { λ r. ⌜ r ≡ cornerLimit ⌝ }
+// The corner limit of whatever has no job of its own: the corner test as C and Rust callers make it, and the pictures.
+pub fn default_limit() -> f64
+    ensures { λ r. ⌜ r ≡ defaultLimit ⌝ }
 {
     Options::CORNER_LIMIT
 }

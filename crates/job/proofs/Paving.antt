@@ -21,7 +21,6 @@ use Rattle.state.proofs.Basics.{zero-one}
 use Rattle.state.proofs.Outcomes.{gives-same, not-both}
 use Rattle.state.proofs.Written.{reading-written}
 use Rattle.state.proofs.Fitting.{Fit, sound-written, clean-written}
-use Rattle.input.specs.Limit.{cornerLimit}
 use Rattle.input.specs.Job.{Job, inputNumber}
 use Rattle.input.proofs.Shape.{accepted}
 use Rattle.planning.specs.Ring.{loopRing}
@@ -116,7 +115,7 @@ module _ (j : Job) (l : Lengths) where
   sample-refused n x e = go (eqb (inputNumber j l) 0) (sampled j) e
     where
       after : Outcome State → Outcome State
-      after o = andThen (andThen o (somePasses j (j .options .«max_row_rounds»))) (closings cornerLimit)
+      after o = andThen (andThen o (somePasses j (j .options .«max_row_rounds»))) (closings (j .options .«corner_limit»))
 
       go : (t : Bool) (o : Outcome State) → left (Refused n) x ≡ jobLeft l (cond t o (refused (inputNumber j l)))
           → left (Refused n) x ≡ jobLeft l (cond t (after o) (refused (inputNumber j l)))
@@ -167,6 +166,6 @@ module _ (j : Job) (l : Lengths) where
     read-start = ap reading (start .heldIs) ∙ reading-written s (stands .good .even)
 
     -- the job from here on
-    pub onward : jobCall j l ≡ jobLeft l (andThen (somePasses j (j .options .«max_row_rounds») (reading b)) (closings cornerLimit))
+    pub onward : jobCall j l ≡ jobLeft l (andThen (somePasses j (j .options .«max_row_rounds») (reading b)) (closings (j .options .«corner_limit»)))
     unfolding jobCall onJob paved andThen
     onward = rw (start .input, start .sampledIs, read-start)

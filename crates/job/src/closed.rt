@@ -1,13 +1,11 @@
-// The last step of a job: the closings, and zeros when they are refused.
+// The last step of a job: the closings with the job's corner limit, and zeros when they are refused.
 ghost use mathlib.Core.Path.{_≡_};
 ghost use lib.ListN.{length};
 ghost use Rattle.state.specs.State.{noCounts, reading};
 ghost use Rattle.state.specs.Call.{held, left, lengthsOf, jobLeft};
 ghost use Rattle.state.specs.Sound.{Sound, Clean};
-ghost use Rattle.input.specs.Limit.{cornerLimit};
 ghost use Rattle.rules.specs.Closing.{closings};
 use closing::close_small_fronts;
-use input::corner_limit;
 use state::Answer;
 use state::Counts;
 use state::clear_all;
@@ -18,12 +16,13 @@ pub fn close_job(
     front_nodes: &mut [u16],
     front_lengths: &mut [u16],
     counts: Counts,
+    limit: f64,
 ) -> Answer
     requires { ⌜ Sound (held (now points) (now quads) (now «front_nodes») (now «front_lengths») counts) ⌝ }
     requires { ⌜ Clean (held (now points) (now quads) (now «front_nodes») (now «front_lengths») counts) ⌝ }
     ensures { λ r. ⌜ left r (held (now (points .exit)) (now (quads .exit)) (now («front_nodes» .exit)) (now («front_lengths» .exit)) noCounts)
         ≡ jobLeft (lengthsOf (length (now (points .entry))) (length (now (quads .entry))) (length (now («front_nodes» .entry))) (length (now («front_lengths» .entry))))
-        (closings cornerLimit (reading (held (now (points .entry)) (now (quads .entry)) (now («front_nodes» .entry)) (now («front_lengths» .entry)) counts))) ⌝ }
+        (closings limit (reading (held (now (points .entry)) (now (quads .entry)) (now («front_nodes» .entry)) (now («front_lengths» .entry)) counts))) ⌝ }
 {
     match close_small_fronts(
         points,
@@ -31,7 +30,7 @@ pub fn close_job(
         front_nodes,
         front_lengths,
         counts,
-        corner_limit(),
+        limit,
         true,
     ) {
         Answer::Refused(n) => {

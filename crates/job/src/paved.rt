@@ -6,7 +6,6 @@ ghost use Rattle.geometry.specs.Domain.{sumOf};
 ghost use Rattle.state.specs.State.{noCounts, reading};
 ghost use Rattle.state.specs.Call.{held, left, lengthsOf, jobLeft};
 ghost use Rattle.state.specs.Sound.{Sound, Clean};
-ghost use Rattle.input.specs.Limit.{cornerLimit};
 ghost use Rattle.input.specs.Job as inputs;
 ghost use Rattle.rules.specs.Passes.{somePasses};
 ghost use Rattle.rules.specs.Closing.{closings};
@@ -35,7 +34,7 @@ pub fn pave(
     ensures { λ r. ⌜ left r (held (now (points .exit)) (now (quads .exit)) (now («front_nodes» .exit)) (now («front_lengths» .exit)) noCounts)
         ≡ jobLeft (lengthsOf (length (now (points .entry))) (length (now (quads .entry))) (length (now («front_nodes» .entry))) (length (now («front_lengths» .entry))))
         (andThen (somePasses (inputs.job (now (coords .entry)) (now («loop_lengths» .entry)) h options) (options .«max_row_rounds») (reading (held (now (points .entry)) (now (quads .entry)) (now («front_nodes» .entry)) (now («front_lengths» .entry)) counts)))
-        (closings cornerLimit)) ⌝ }
+        (closings (options .«corner_limit»))) ⌝ }
 {
     match some_passes(
         coords,
@@ -53,6 +52,13 @@ pub fn pave(
             clear_all(points, quads, front_nodes, front_lengths);
             Answer::Refused(n)
         }
-        Answer::Done(laid) => close_job(points, quads, front_nodes, front_lengths, laid),
+        Answer::Done(laid) => close_job(
+            points,
+            quads,
+            front_nodes,
+            front_lengths,
+            laid,
+            options.corner_limit,
+        ),
     }
 }

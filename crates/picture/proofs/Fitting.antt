@@ -12,7 +12,7 @@ use Rattle.state.specs.declared.Counts.{Counts}
 use Rattle.state.specs.State.{Held, quadsOf, cut, reading}
 use Rattle.state.specs.Sound.{Sound, sizesOf}
 use Rattle.state.proofs.Reading.{sound-counted, sizes-long, points-long, length-quadsOf}
-use Rattle.input.specs.Limit.{cornerLimit}
+use Rattle.input.specs.Limit.{defaultLimit}
 use Rattle.rules.specs.Fan.{Box}
 use Rattle.shapes.specs.Shapes.{outlineText, loopsText, tilesText, frontsText, nodesText, worst}
 use Rattle.shapes.proofs.Lengths.{total, joined-total, path-length, loops-length, tiles-length, fronts-length, nodes-length}
@@ -62,8 +62,8 @@ shapes-length : (coords : List Float) (loops : List ℕ) (points : List Float) (
     → length (shapesText coords loops points (quadsOf n quads) (cut lengths nodes) laid) ≤ 1618421
 unfolding shapesText
 shapes-length coords loops points quads n lengths nodes laid few p q s k =
-    let t = joined-total (tilesText cornerLimit points (quadsOf n quads) ∷ outlineText coords loops ∷ frontsText points (cut lengths nodes) ∷ dotsText points laid ∷ []) in
-    let a = tiles-length points cornerLimit (quadsOf n quads) in
+    let t = joined-total (tilesText defaultLimit points (quadsOf n quads) ∷ outlineText coords loops ∷ frontsText points (cut lengths nodes) ∷ dotsText points laid ∷ []) in
+    let a = tiles-length points defaultLimit (quadsOf n quads) in
     let l = length-quadsOf n quads in
     let o = outline-length coords loops few in
     let f = fronts-length points lengths nodes in

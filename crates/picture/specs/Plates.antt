@@ -12,7 +12,7 @@ use Rattle.state.specs.declared.Answer.the-variants.{Done, Refused}
 use Rattle.state.specs.State.{Quad, Held, joined, reading}
 use Rattle.state.specs.Call.{Left}
 use Rattle.input.specs.Job.{Job, loopLimit, pairLimit}
-use Rattle.input.specs.Limit.{cornerLimit}
+use Rattle.input.specs.Limit.{defaultLimit}
 use Rattle.rules.specs.Fan.{Box, box}
 use Rattle.shapes.specs.Shapes.{outlineText, tilesText, frontsText, nodesText, worst}
 use Rattle.frames.specs.Views.{margin, viewText, sizeText, headText, middleText, underText, captionText, closing}
@@ -24,7 +24,7 @@ dotsText points laid = joined (nodesText 110 points (length points / 2) ∷ node
 
 unfoldable pub shapesText : List Float → List ℕ → List Float → List Quad → List (List ℕ) → ℕ → List ℕ
 shapesText coords loops points quads fronts laid =
-    joined (tilesText cornerLimit points quads ∷ outlineText coords loops ∷ frontsText points fronts ∷ dotsText points laid ∷ [])
+    joined (tilesText defaultLimit points quads ∷ outlineText coords loops ∷ frontsText points fronts ∷ dotsText points laid ∷ [])
 
 -- shapes in a view, and words under them
 unfoldable pub framedText : Box → Float → List ℕ → List ℕ → List ℕ

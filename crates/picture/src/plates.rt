@@ -25,7 +25,7 @@ use frames::margin_of;
 use frames::put_caption;
 use frames::put_closing;
 use frames::put_head;
-use input::corner_limit;
+use input::default_limit;
 use shapes::put_fronts;
 use shapes::put_nodes;
 use shapes::put_outline;
@@ -68,7 +68,7 @@ fn put_shapes(
     requires { ⌜ (sumOf (now loops) * 2 ≤ length (now coords)) × (n * 4 ≤ length (now quads)) × (sumOf (now lengths) ≤ length (now nodes)) ⌝ }
     ensures { λ r. ⌜ Put (now (out .entry)) at (pictures.shapesText (now (coords .entry)) (now (loops .entry)) (now (points .entry)) (quadsOf n (now (quads .entry))) (cut (now (lengths .entry)) (now (nodes .entry))) laid) (now (out .exit)) r ⌝ }
 {
-    let limit = corner_limit();
+    let limit = default_limit();
     let a1 = put_tiles(out, at, limit, points, quads, n);
     let a2 = put_outline(out, a1, coords, loops);
     let a3 = put_fronts(out, a2, points, nodes, lengths);

@@ -1,6 +1,7 @@
 // Jobs that no text can say: sizes, coordinates and options.
 use calls::run;
 use input::Options;
+use input::default_limit;
 use input::defaults;
 use showing::line;
 
@@ -37,21 +38,46 @@ fn sides() {
     );
 }
 
-// Options that are no defaults, so that two of them exchanged give another answer.
-fn other_options() {
+fn with_limit(corner_limit: f64) -> Options {
+    Options {
+        corner_margin: Options::CORNER_MARGIN,
+        min_edge_fraction: Options::MIN_EDGE,
+        front_gap: Options::FRONT_GAP,
+        max_row_rounds: Options::MAX_ROW_ROUNDS,
+        seam: false,
+        corner_limit,
+    }
+}
+
+// Options that are no defaults, so that two of them exchanged give another answer. A corner limit of 0.8 refuses the row.
+fn other_options(name: &[u8], corner_limit: f64) {
     let options = Options {
         corner_margin: 1.5,
         min_edge_fraction: 0.3,
         front_gap: 5.0,
         max_row_rounds: 1,
         seam: false,
+        corner_limit,
     };
     let square = [0.0, 0.0, 10000.0, 0.0, 10000.0, 10000.0, 0.0, 10000.0];
-    pave(b"other options", 1000.0, options, &square);
+    pave(name, 1000.0, options, &square);
+}
+
+// A front of four nodes whose corner values are all 0.8, the limit: it is not closed.
+fn limit_met() {
+    let slanted = [0.0, 0.0, 5000.0, 0.0, 8000.0, 4000.0, 3000.0, 4000.0];
+    pave(
+        b"corner values that are the limit",
+        1000.0,
+        with_limit(0.8),
+        &slanted,
+    );
 }
 
 pub fn jobs() {
     sizes();
     sides();
-    other_options();
+    other_options(b"other options", default_limit());
+    other_options(b"other options and corner limit", 0.8);
+    limit_met();
 }

@@ -11,7 +11,6 @@ use Rattle.geometry.specs.F64.{_⊗_}
 use Rattle.geometry.specs.Rings.{Ring, ringOf, nodeRing}
 use Rattle.geometry.specs.Domain.{rings}
 use Rattle.input.specs.Job.{Job}
-use Rattle.input.specs.Limit.{cornerLimit}
 use Rattle.state.specs.Limits.{pointLimit, quadLimit}
 use Rattle.state.specs.Outcome.{firstOf}
 use Rattle.state.proofs.Basics.{zero-one}
@@ -46,11 +45,11 @@ module _ (j : Job) (pts : List Float) (fronts : List (List ℕ)) (li : ℕ) (row
   clear = allClearOfFronts pts fronts li (j .options .«front_gap» ⊗ j .h) row n
 
   abbrev corners : List ℕ → Bool
-  corners old = cornersBetween cornerLimit pts old row n
+  corners old = cornersBetween (j .options .«corner_limit») pts old row n
 
   in-order : restStands j pts fronts li row ≡ (inside && off && (long && corners (getD fronts li [])) && clear && isSimple (ringOf row n))
   unfolding restStands
-  in-order = rw (corners-agree cornerLimit pts (getD fronts li []) row even below, ← hn) (reordered inside off long clear (isSimple (ringOf row n)) (corners (getD fronts li [])))
+  in-order = rw (corners-agree (j .options .«corner_limit») pts (getD fronts li []) row even below, ← hn) (reordered inside off long clear (isSimple (ringOf row n)) (corners (getD fronts li [])))
 
   module _ (b1 : Bool) (e1 : b1 ≡ inside) where
     pub one-outside : b1 ≡ false → false ≡ restStands j pts fronts li row

@@ -82,7 +82,7 @@ fn rest_stands(
     }
     let old = nodes_of(front_nodes, start, n);
     let least = options.min_edge_fraction * h;
-    if !all_quads_stand(points, old, row, n, least, input::corner_limit()) {
+    if !all_quads_stand(points, old, row, n, least, options.corner_limit) {
         return false;
     }
     if !clear_of_fronts(

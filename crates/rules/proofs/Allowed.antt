@@ -19,7 +19,6 @@ use Rattle.state.proofs.Basics.{or-false, or-no}
 use Rattle.state.proofs.Repeating.{from-both}
 use Rattle.state.proofs.Written.{reading-written}
 use Rattle.state.proofs.Fitting.{total-lengths, from-none}
-use Rattle.input.specs.Limit.{cornerLimit}
 use Rattle.rules.specs.Closing.{closure, keptFronts}
 use Rattle.pairs.proofs.Occurs.{occursInAll, occurs-none, occurs-joined, none-repeated}
 use Rattle.rules.proofs.Lists.{below-or-from}
@@ -41,7 +40,7 @@ pub record Allowed (s : State) : Type 0 where
 
 -- what holds of a state through sampling, rows, closings and fans, over the sampled loops
 pub record Stands (loops : List (List ℕ)) (s : State) : Type 0 where
-  pub good : Good cornerLimit loops (s .points) (s .quads) (s .fronts)
+  pub good : Good loops (s .points) (s .quads) (s .fronts)
   pub allowed : Allowed s
 
 -- ---- fronts replaced, and fronts taken out
@@ -92,7 +91,7 @@ fronts-below p fs low =
     elim (below-or-from a p) [ inl h ↦ h | inr h ↦ absurd (occurs-none a (joined fs) i (occurs-joined a fs ∙ low a h) l refl) ])
 
 module _ (loops : List (List ℕ)) (s : State) (stands : Stands loops s) where
-  abbrev good : Good cornerLimit loops (s .points) (s .quads) (s .fronts)
+  abbrev good : Good loops (s .points) (s .quads) (s .fronts)
   good = stands .good
 
   abbrev allowed : Allowed s

@@ -1,17 +1,18 @@
 -- What closings, fans and accepted jobs and samples come to, and what a caller holds after any use of the calls.
 use mathlib.Core.Path.{_≡_, refl, ap, sym, _∙_, subst}
 use mathlib.Core.Bool.{Bool, true, false, cond, false≢true}
-use mathlib.Core.List.{List, [], _∷_, _++_, map}
-use Prim.Native.Nat.{ℕ, suc, _+_, _*_, _/_, _%_, _≤_}
+use mathlib.Core.List.{List, [], _∷_, _++_, map, append-nil}
+use Prim.Native.Nat.{ℕ, suc, _+_, _-_, _*_, _/_, _%_, _≤_}
 use native.Mathlib.Omega.{arith}
 use lib.Dec.{eqb, ltb, leb}
 use lib.Ieee.{Float}
-use lib.ListN.{length, getD, length-append}
+use lib.ListN.{length, getD, take, replicate, length-append}
+use lib.Seq.{take-at}
 use borrow.Author.Tests.{eqb-true, eqb-false, ne-eqb, ltb-false, not-false}
 use Rattle.geometry.specs.Rings.{nodeRing}
 use Rattle.geometry.specs.Domain.{rings}
 use Rattle.state.specs.Limits.{pointLimit, quadLimit}
-use Rattle.state.specs.State.{State, Held, Lengths, lengths, nodes, joined, written, reading}
+use Rattle.state.specs.State.{State, Quad, Held, Lengths, lengths, nodes, joined, written, reading}
 use Rattle.state.specs.Outcome.{Outcome, refused, gives, firstOf, test}
 use Rattle.state.specs.Given.{some, member, wrongState}
 use Rattle.state.specs.Call.{Left, numberOf, jobLeft, stateLeft, onState}
@@ -19,7 +20,6 @@ use Rattle.state.proofs.Basics.{or-false}
 use Rattle.state.proofs.Outcomes.{gives-same, not-both, first-none, numbered-gives}
 use Rattle.state.proofs.Written.{reading-written}
 use Rattle.input.specs.Job.{Job, inputNumber}
-use Rattle.input.specs.Limit.{cornerLimit}
 use Rattle.input.proofs.Shape.{accepted}
 use Rattle.sampling.specs.Sample.{sampled, onJob, sampleCall}
 use Rattle.rules.specs.Checks.{quadPasses}
@@ -29,15 +29,17 @@ use Rattle.rules.specs.Passes.{somePasses}
 use Rattle.rules.specs.Closing.{closure, closed, closings}
 use Rattle.rules.specs.Fan.{centre, fanQuads, fanned, fan}
 use Rattle.rules.specs.Calls.{andThen, paved, jobCall, closeCall, fanCall}
-use Rattle.rules.specs.Demands.{sampledLoops, Reached, byJob, bySample, byRow, byClosing, byFan}
+use Rattle.rules.specs.Demands.{sampledLoops, limitsAfter, Called, byRow, byClosing, byFan, Reached, byJob, bySample, byCall}
 use Rattle.rules.proofs.Every.{every-at}
 use Rattle.rules.proofs.Numbers.{RefusedIn, loopNumbers, sampled-in}
 use Rattle.rules.proofs.Refusals.{jobRefusals, paved-in}
 use Rattle.rules.proofs.Invariant.{Good, noQuad}
+use Rattle.rules.proofs.Corners.{Passed, none-passed}
 use Rattle.rules.proofs.Allowed.{Stands, kept-fewer}
-use Rattle.rules.proofs.SampleGood.{sampled-stands}
+use Rattle.rules.proofs.Laying.{Lays, lays-none, lays-both, laid-passed}
+use Rattle.rules.proofs.SampleGood.{sampled-began, sampled-stands}
 use Rattle.rules.proofs.PassGood.{row-advances, passes-advance}
-use Rattle.rules.proofs.ClosingGood.{closing-good}
+use Rattle.rules.proofs.ClosingGood.{closures-pass, closing-good}
 use Rattle.rules.proofs.FanGood.{fan-length, fan-good}
 
 -- ---- closings
@@ -50,14 +52,14 @@ closings-give limit s t e = go (ltb quadLimit (length (closed limit s .quads))) 
     go true d f = absurd (not-both f)
     go false d f = (sym (gives-same f), ltb-false quadLimit (length (closed limit s .quads)) d)
 
-closed-stands : (loops : List (List ℕ)) (s : State) → length (closed cornerLimit s .quads) ≤ quadLimit → Stands loops s → Stands loops (closed cornerLimit s)
+closed-stands : (limit : Float) (loops : List (List ℕ)) (s : State) → length (closed limit s .quads) ≤ quadLimit → Stands loops s → Stands loops (closed limit s)
 unfolding closed
-closed-stands loops s few g =
+closed-stands limit loops s few g =
     let a = g .allowed in
-    let kept = kept-fewer cornerLimit (s .points) (s .fronts) in
-    let more = length-append (s .quads) (joined (map (closure cornerLimit (s .points)) (s .fronts))) in
+    let kept = kept-fewer limit (s .points) (s .fronts) in
+    let more = length-append (s .quads) (joined (map (closure limit (s .points)) (s .fronts))) in
     record {
-      good = closing-good cornerLimit loops (s .points) (s .quads) [] (s .fronts) (g .good);
+      good = closing-good limit loops (s .points) (s .quads) [] (s .fronts) (g .good);
       allowed = record {
         points = a .points;
         quads = few;
@@ -70,65 +72,87 @@ closed-stands loops s few g =
       };
     }
 
-closings-keep : (loops : List (List ℕ)) (s t : State) → closings cornerLimit s ≡ gives t → Stands loops s → Stands loops t
-closings-keep loops s t e g = let c = closings-give cornerLimit s t e in rw (c .0) (closed-stands loops s (c .1) g)
+closed-lays : (limit : Float) (s : State) → length (closed limit s .quads) ≤ quadLimit → Lays limit s (closed limit s)
+unfolding closed
+closed-lays limit s few = record {
+  keeps = λ loops g. closed-stands limit loops s few g;
+  morePoints = [];
+  pointsAre = sym (append-nil (s .points));
+  moreQuads = joined (map (closure limit (s .points)) (s .fronts));
+  quadsAre = refl;
+  passed = λ loops g. closures-pass limit (s .points) (s .fronts);
+}
+
+closings-lay : (limit : Float) (s t : State) → closings limit s ≡ gives t → Lays limit s t
+closings-lay limit s t e = let c = closings-give limit s t e in rw (c .0) (closed-lays limit s (c .1))
 
 -- ---- a fan
 
-fanned-keeps : (loops : List (List ℕ)) (j : Job) (s : State) (f : List ℕ) (t : State) → s .fronts ≡ f ∷ [] → fanned cornerLimit j s f ≡ gives t → Stands loops s → Stands loops t
-unfolding fanned
-fanned-keeps loops j s f t only e g =
-    let n = length f in
-    let c = centre (rings (j .coords) (j .loops)) (nodeRing (s .points) f) in
-    let more = c .point .x ∷ c .point .y ∷ [] in
-    let pts = s .points ++ more in
-    let added = fanQuads pts f (nodes s) (n / 2) in
-    let all = numbered-gives _ _ t e in
-    let t24 = first-none 23 _ _ (all .0) in
-    let t26 = first-none 25 _ _ (t24 .1) in
-    let t21 = first-none 20 _ _ (t26 .1) in
-    let t27 = first-none 26 _ _ (t21 .1) in
-    let twos : n ≡ 2 * (n / 2) = omega (arith, eqb-false (n % 2) 1 (or-false (ltb n 4) (eqb (n % 2) 1) (t24 .0) .1)) in
-    let room = or-false (ltb pointLimit (nodes s + 1)) (ltb quadLimit (length (s .quads) + n / 2)) (t21 .0) in
-    let a = g .allowed in
-    let here : Good cornerLimit loops (s .points) (s .quads) (f ∷ []) = subst (λ x. Good cornerLimit loops (s .points) (s .quads) x) only (g .good) in
-    let quads-after : length (s .quads ++ added) ≡ length (s .quads) + n / 2 = length-append (s .quads) added ∙ ap (λ k. length (s .quads) + k) (fan-length pts f (nodes s) (n / 2)) in
-    subst (λ x. Stands loops x) (all .1)
-    (record {
-      good = fan-good cornerLimit loops (s .points) (s .quads) f here more (n / 2) twos refl (λ i l. every-at (λ k. quadPasses cornerLimit pts (getD added k noQuad)) (n / 2) i (not-false _ (t27 .0)) l);
-      allowed = record {
-        points = omega (arith, length-append (s .points) more, ltb-false pointLimit (nodes s + 1) (room .0));
-        quads = omega (arith, quads-after, ltb-false quadLimit (length (s .quads) + n / 2) (room .1));
-        fronts = omega arith;
-        frontNodes = unfold joined in omega arith;
-        three = unfold some in refl;
-        sums = omega (arith, quads-after, a .sums);
-        laid = omega (arith, quads-after, a .laid);
-        rounds = a .rounds;
-      };
-    })
+module _ (limit : Float) (j : Job) (s : State) (f : List ℕ) where
+  abbrev n : ℕ
+  n = length f
 
-fan-keeps : (loops : List (List ℕ)) (j : Job) (s t : State) → fan cornerLimit j s ≡ gives t → Stands loops s → Stands loops t
+  abbrev more : List Float
+  more = let c = centre (rings (j .coords) (j .loops)) (nodeRing (s .points) f) in c .point .x ∷ c .point .y ∷ []
+
+  abbrev added : List Quad
+  added = fanQuads (s .points ++ more) f (nodes s) (n / 2)
+
+  fanned-lays : (t : State) → s .fronts ≡ f ∷ [] → fanned limit j s f ≡ gives t → Lays limit s t
+  unfolding fanned
+  fanned-lays t only e =
+      let all = numbered-gives _ _ t e in
+      let t24 = first-none 23 _ _ (all .0) in
+      let t26 = first-none 25 _ _ (t24 .1) in
+      let t21 = first-none 20 _ _ (t26 .1) in
+      let t27 = first-none 26 _ _ (t21 .1) in
+      let twos : n ≡ 2 * (n / 2) = omega (arith, eqb-false (n % 2) 1 (or-false (ltb n 4) (eqb (n % 2) 1) (t24 .0) .1)) in
+      let room = or-false (ltb pointLimit (nodes s + 1)) (ltb quadLimit (length (s .quads) + n / 2)) (t21 .0) in
+      let many = fan-length (s .points ++ more) f (nodes s) (n / 2) in
+      let quads-after : length (s .quads ++ added) ≡ length (s .quads) + n / 2 = length-append (s .quads) added ∙ ap (λ k. length (s .quads) + k) many in
+      subst (λ x. Lays limit s x) (all .1)
+      (record {
+        keeps = λ loops g. record {
+          good = fan-good loops (s .points) (s .quads) f (subst (λ x. Good loops (s .points) (s .quads) x) only (g .good)) more (n / 2) twos refl;
+          allowed = record {
+            points = omega (arith, length-append (s .points) more, ltb-false pointLimit (nodes s + 1) (room .0));
+            quads = omega (arith, quads-after, ltb-false quadLimit (length (s .quads) + n / 2) (room .1));
+            fronts = omega arith;
+            frontNodes = unfold joined in omega arith;
+            three = unfold some in refl;
+            sums = omega (arith, quads-after, g .allowed .sums);
+            laid = omega (arith, quads-after, g .allowed .laid);
+            rounds = g .allowed .rounds;
+          };
+        };
+        morePoints = more;
+        pointsAre = refl;
+        moreQuads = added;
+        quadsAre = refl;
+        passed = λ loops g i l. every-at (λ k. quadPasses limit (s .points ++ more) (getD added k noQuad)) (n / 2) i (not-false _ (t27 .0)) (omega (arith, many));
+      })
+
+fan-lays : (limit : Float) (j : Job) (s t : State) → fan limit j s ≡ gives t → Lays limit s t
 unfolding fan
-fan-keeps loops j s t e g = go (s .fronts) refl e
+fan-lays limit j s t e = go (s .fronts) refl e
   where
     after : List (List ℕ) → Outcome State
-    after x = elim x [ [] ↦ gives s | f ∷ fs ↦ cond (eqb (length fs) 0) (fanned cornerLimit j s f) (refused 23) ]
+    after x = elim x [ [] ↦ gives s | f ∷ fs ↦ cond (eqb (length fs) 0) (fanned limit j s f) (refused 23) ]
 
-    go : (x : List (List ℕ)) → s .fronts ≡ x → after x ≡ gives t → Stands loops t
-    go [] d h = subst (λ u. Stands loops u) (gives-same h) g
-    go (f ∷ []) d h = fanned-keeps loops j s f t d h g
+    go : (x : List (List ℕ)) → s .fronts ≡ x → after x ≡ gives t → Lays limit s t
+    go [] d h = subst (λ u. Lays limit s u) (gives-same h) (lays-none limit s)
+    go (f ∷ []) d h = fanned-lays limit j s f t d h
     go (f ∷ (k ∷ fs)) d h = absurd (not-both (rw (ne-eqb (suc (length fs)) 0 (λ x. omega arith)) at h))
 
 -- ---- a row
 
-row-keeps : (loops : List (List ℕ)) (j : Job) (li : ℕ) (s t : State) → rowAt j li s ≡ gives t → Stands loops s → Stands loops t
+row-lays : (j : Job) (li : ℕ) (s t : State) → rowAt j li s ≡ gives t → Lays (j .options .«corner_limit») s t
 unfolding rowAt
-row-keeps loops j li s t e g = go (leb (length (s .fronts)) li) e
+row-lays j li s t e = go (leb (length (s .fronts)) li) e
   where
-    go : (b : Bool) → cond b (refused 20) (nextRow j s li) ≡ gives t → Stands loops t
+    go : (b : Bool) → cond b (refused 20) (nextRow j s li) ≡ gives t → Lays (j .options .«corner_limit») s t
     go true f = absurd (not-both f)
-    go false f = row-advances j s li t f .keeps loops g
+    go false f = row-advances j s li t f .lays
 
 -- ---- an accepted job or sample
 
@@ -171,7 +195,7 @@ pub record Made (j : Job) (t : State) : Type 0 where
   pub sampledIs : sampled j ≡ gives start
   pub rows : State
   pub passesAre : somePasses j (j .options .«max_row_rounds») start ≡ gives rows
-  pub closingsAre : closings cornerLimit rows ≡ gives t
+  pub closingsAre : closings (j .options .«corner_limit») rows ≡ gives t
 
 pub paved-made : (j : Job) (t : State) → paved j ≡ gives t → Made j t
 unfolding paved andThen
@@ -180,11 +204,11 @@ paved-made j t e = go (sampled j) refl e
     limit : ℕ
     limit = j .options .«max_row_rounds»
 
-    rows : (s : State) → sampled j ≡ gives s → (y : Outcome State) → somePasses j limit s ≡ y → andThen y (closings cornerLimit) ≡ gives t → Made j t
+    rows : (s : State) → sampled j ≡ gives s → (y : Outcome State) → somePasses j limit s ≡ y → andThen y (closings (j .options .«corner_limit»)) ≡ gives t → Made j t
     rows s d (refused n) c f = absurd (not-both f)
     rows s d (gives u) c f = record { start = s; sampledIs = d; rows = u; passesAre = c; closingsAre = f }
 
-    go : (x : Outcome State) → sampled j ≡ x → andThen (andThen x (somePasses j limit)) (closings cornerLimit) ≡ gives t → Made j t
+    go : (x : Outcome State) → sampled j ≡ x → andThen (andThen x (somePasses j limit)) (closings (j .options .«corner_limit»)) ≡ gives t → Made j t
     go (refused n) d f = absurd (not-both f)
     go (gives s) d f = rows s d (somePasses j limit s) refl f
 
@@ -195,23 +219,46 @@ start-stands j l s input e = rw (ap sampledLoops e) (sampled-stands j s e (accep
 -- the state that the passes left
 pub rows-stand : (j : Job) (l : Lengths) (t : State) → inputNumber j l ≡ 0 → (m : Made j t) → Stands (sampledLoops (sampled j)) (m .rows)
 rows-stand j l t input m =
-    passes-advance j (j .options .«max_row_rounds») (m .start) (m .rows) (m .passesAre) .keeps (sampledLoops (sampled j)) (start-stands j l (m .start) input (m .sampledIs))
+    passes-advance j (j .options .«max_row_rounds») (m .start) (m .rows) (m .passesAre) .lays .keeps (sampledLoops (sampled j)) (start-stands j l (m .start) input (m .sampledIs))
 
 -- ---- any use of the calls
 
--- what a caller holds: a state that stands, written
-pub record Holds (loops : List (List ℕ)) (b : Held) : Type 0 where
+-- what a caller holds: a state that stands, written, each of its quads passing the limit at its place
+pub record Holds (loops : List (List ℕ)) (limits : List Float) (b : Held) : Type 0 where
   pub state : State
   pub heldIs : b ≡ written state
   pub stands : Stands loops state
+  pub passed : Passed limits (state .points) (state .quads)
 
-pub read-back : {loops : List (List ℕ)} {b : Held} (h : Holds loops b) → reading b ≡ h .state
+pub read-back : {loops : List (List ℕ)} {limits : List Float} {b : Held} (h : Holds loops limits b) → reading b ≡ h .state
 read-back h = ap reading (h .heldIs) ∙ reading-written (h .state) (h .stands .good .even)
 
-step-holds : {loops : List (List ℕ)} {b : Held} (input : ℕ) (step : State → Outcome State) → ((s t : State) → step s ≡ gives t → Stands loops s → Stands loops t)
-    → Holds loops b → Holds loops (onState input b step .held)
+written-quads : (s : State) → written s .counts .quads ≡ length (s .quads)
+unfolding written
+written-quads s = refl
+
+quads-counted : {loops : List (List ℕ)} {limits : List Float} {b : Held} (h : Holds loops limits b) → b .counts .quads ≡ length limits
+quads-counted h = ap (λ x. x .counts .quads) (h .heldIs) ∙ written-quads (h .state) ∙ sym (h .passed .each)
+
+-- a job's quads are laid on none, all with its limit
+job-passed : (j : Job) (t : State) (m : Made j t) → Stands (sampledLoops (sampled j)) (m .start) → Passed (replicate (length (t .quads)) (j .options .«corner_limit»)) (t .points) (t .quads)
+job-passed j t m g =
+    let limit = j .options .«corner_limit» in
+    let laid = lays-both (passes-advance j (j .options .«max_row_rounds») (m .start) (m .rows) (m .passesAre) .lays) (closings-lay limit (m .rows) t (m .closingsAre)) in
+    let none = sampled-began j (m .start) (m .sampledIs) .fresh .none in
+    let all : length (laid .moreQuads) ≡ length (t .quads) = sym (ap length (laid .quadsAre) ∙ ap (λ q. length (q ++ laid .moreQuads)) none) in
+    subst (λ n. Passed (replicate n limit) (t .points) (t .quads)) all
+    (laid-passed laid (sampledLoops (sampled j)) [] g (rw none (none-passed (m .start .points))))
+
+-- what a call leaves of what a caller holds
+pub record Follows (loops : List (List ℕ)) (limits : List Float) (b : Held) (limit : Float) (c : Held) : Type 0 where
+  pub holds : Holds loops (limitsAfter limits limit c) c
+  pub behind : take (length (reading b .quads)) (reading c .quads) ≡ reading b .quads
+
+step-follows : {loops : List (List ℕ)} {limits : List Float} {b : Held} (limit : Float) (input : ℕ) (step : State → Outcome State) → ((s t : State) → step s ≡ gives t → Lays limit s t)
+    → Holds loops limits b → Follows loops limits b limit (onState input b step .held)
 unfolding onState stateLeft
-step-holds {loops} {b} input step keep h = go (stepped (eqb number 0)) refl
+step-follows {loops} {limits} {b} limit input step lays h = go (stepped (eqb number 0)) refl
   where
     number : ℕ
     number = cond (eqb input 0) (firstOf (test 25 (wrongState b) ∷ [])) input
@@ -219,23 +266,58 @@ step-holds {loops} {b} input step keep h = go (stepped (eqb number 0)) refl
     stepped : Bool → Outcome State
     stepped t = cond t (step (reading b)) (refused number)
 
-    granted : (t : State) (x : Bool) → stepped x ≡ gives t → Stands loops t
-    granted t true d = keep (reading b) t d (rw (read-back h) (h .stands))
-    granted t false d = absurd (not-both d)
+    laid : (t : State) (x : Bool) → stepped x ≡ gives t → Lays limit (reading b) t
+    laid t true d = lays (reading b) t d
+    laid t false d = absurd (not-both d)
 
-    go : (x : Outcome State) → stepped (eqb number 0) ≡ x → Holds loops (stateLeft b x .held)
-    go (refused n) d = h
-    go (gives t) d = record { state = t; heldIs = refl; stands = granted t (eqb number 0) d }
+    -- a refusal lays none
+    same : limitsAfter limits limit b ≡ limits
+    same = let none : b .counts .quads - length limits ≡ 0 = omega (arith, quads-counted h) in rw none (append-nil limits)
 
-pub reached-holds : {loops : List (List ℕ)} {b : Held} → Reached loops b → Holds loops b
-unfolding jobCall sampleCall rowCall closeCall fanCall
+    granted : (t : State) → Lays limit (reading b) t → Follows loops limits b limit (written t)
+    granted t x =
+        let stood : Stands loops (reading b) = rw (read-back h) (h .stands) in
+        let passed : Passed limits (reading b .points) (reading b .quads) = rw (read-back h) (h .passed) in
+        let after = x .keeps loops stood in
+        let back : reading (written t) ≡ t = reading-written t (after .good .even) in
+        let many : length (t .quads) ≡ length limits + length (x .moreQuads) = ap length (x .quadsAre) ∙ length-append (reading b .quads) (x .moreQuads) ∙ ap (λ k. k + length (x .moreQuads)) (sym (passed .each)) in
+        let new : length (x .moreQuads) ≡ written t .counts .quads - length limits = omega (arith, written-quads t) in
+        record {
+          holds = record {
+            state = t;
+            heldIs = refl;
+            stands = after;
+            passed = subst (λ k. Passed (limits ++ replicate k limit) (t .points) (t .quads)) new (laid-passed x loops limits stood passed);
+          };
+          behind = rw (back, x .quadsAre) (take-at (reading b .quads) (x .moreQuads) (length (reading b .quads)) refl);
+        }
+
+    go : (x : Outcome State) → stepped (eqb number 0) ≡ x → Follows loops limits b limit (stateLeft b x .held)
+    go (refused n) d = record { holds = rw same h; behind = all (reading b .quads) }
+      where
+        all : (qs : List Quad) → take (length qs) qs ≡ qs
+        all [] = refl
+        all (q ∷ qs) = ap (λ x. q ∷ x) (all qs)
+    go (gives t) d = granted t (laid t (eqb number 0) d)
+
+pub call-follows : {loops : List (List ℕ)} {limits : List Float} {b c : Held} {limit : Float} → Holds loops limits b → Called b limit c → Follows loops limits b limit c
+unfolding rowCall closeCall fanCall
+call-follows h (byRow {b} j li) = step-follows (j .options .«corner_limit») (inputNumber j (lengths b)) (rowAt j li) (row-lays j li) h
+call-follows h (byClosing {b} j) = step-follows (j .options .«corner_limit») (inputNumber j (lengths b)) (closings (j .options .«corner_limit»)) (closings-lay (j .options .«corner_limit»)) h
+call-follows h (byFan {b} j) = step-follows (j .options .«corner_limit») (inputNumber j (lengths b)) (fan (j .options .«corner_limit») j) (fan-lays (j .options .«corner_limit») j) h
+
+pub reached-holds : {loops : List (List ℕ)} {limits : List Float} {b : Held} → Reached loops limits b → Holds loops limits b
+unfolding jobCall sampleCall
 reached-holds (byJob j l e) =
     let a = job-accepted j l e in
     let m = paved-made j (a .state) (a .madeIs) in
-    record { state = a .state; heldIs = a .heldIs; stands = closings-keep (sampledLoops (sampled j)) (m .rows) (a .state) (m .closingsAre) (rows-stand j l (a .state) (a .input) m) }
+    record {
+      state = a .state;
+      heldIs = a .heldIs;
+      stands = closings-lay (j .options .«corner_limit») (m .rows) (a .state) (m .closingsAre) .keeps (sampledLoops (sampled j)) (rows-stand j l (a .state) (a .input) m);
+      passed = rw (ap (λ b. b .counts .quads) (a .heldIs) ∙ written-quads (a .state)) (job-passed j (a .state) m (start-stands j l (m .start) (a .input) (m .sampledIs)));
+    }
 reached-holds (bySample j l e) =
     let a = sample-accepted j l e in
-    record { state = a .state; heldIs = a .heldIs; stands = start-stands j l (a .state) (a .input) (a .madeIs) }
-reached-holds (byRow {loops} {b} j li r) = step-holds (inputNumber j (lengths b)) (rowAt j li) (row-keeps loops j li) (reached-holds r)
-reached-holds (byClosing {loops} {b} j r) = step-holds (inputNumber j (lengths b)) (closings cornerLimit) (closings-keep loops) (reached-holds r)
-reached-holds (byFan {loops} {b} j r) = step-holds (inputNumber j (lengths b)) (fan cornerLimit j) (fan-keeps loops j) (reached-holds r)
+    record { state = a .state; heldIs = a .heldIs; stands = start-stands j l (a .state) (a .input) (a .madeIs); passed = rw (sampled-began j (a .state) (a .madeIs) .fresh .none) (none-passed (a .state .points)) }
+reached-holds (byCall r c) = call-follows (reached-holds r) c .holds

@@ -1,6 +1,5 @@
 -- What it takes for quads to close a front, and that such a closing keeps the invariant. Any number of nodes and quads may close so.
 use mathlib.Core.Path.{_≡_, ap, _∙_}
-use mathlib.Core.Bool.{true}
 use mathlib.Core.List.{List, _∷_, _++_, map}
 use mathlib.Core.Logic.{_⊎_, inl, inr}
 use Prim.Native.Nat.{ℕ, _+_, _*_, _/_, _≤_, _<_}
@@ -8,7 +7,6 @@ use native.Mathlib.Omega.{arith}
 use lib.ListN.{length, getD}
 use lib.Ieee.{Float}
 use Rattle.state.specs.State.{Quad, quadNodes}
-use Rattle.rules.specs.Checks.{quadPasses}
 use Rattle.pairs.specs.Pairs.{sides, sidesOfAll}
 use Rattle.rules.proofs.Lists.{all-append, below-or-from}
 use Rattle.pairs.proofs.Occurs.{occurs, occursInAll, occurs-append-all}
@@ -20,16 +18,15 @@ abbrev pub Within : List ℕ → Quad → Type 0
 Within f q = (0 < occurs (q .a) f) × (0 < occurs (q .b) f) × (0 < occurs (q .c) f) × (0 < occurs (q .d) f)
 
 -- The quads have the front's sides, and twice each of some chords: a chord joins two nodes of the front that are no neighbours.
-pub record Closes (limit : Float) (points : List Float) (f : List ℕ) (added : List Quad) : Type 0 where
+pub record Closes (f : List ℕ) (added : List Quad) : Type 0 where
   pub chord : ℕ → ℕ → ℕ
   pub counted : (a b : ℕ) → sidesOfAll a b (map quadNodes added) ≡ sides a b f + 2 * chord a b
   pub atMost : (a b : ℕ) → chord a b ≤ 1
   pub across : (a b : ℕ) → 0 < chord a b → (sides a b f ≡ 0) × (0 < occurs a f) × (0 < occurs b f)
   pub within : (i : ℕ) → i < length added → Within f (getD added i noQuad)
-  pub passed : (i : ℕ) → i < length added → quadPasses limit points (getD added i noQuad) ≡ true
 
-module _ (limit : Float) (loops : List (List ℕ)) (points : List Float) (quads : List Quad) (before : List (List ℕ)) (f : List ℕ) (behind : List (List ℕ)) (added : List Quad)
-    (good : Good limit loops points quads (before ++ (f ∷ behind))) (closes : Closes limit points f added) where
+module _ (loops : List (List ℕ)) (points : List Float) (quads : List Quad) (before : List (List ℕ)) (f : List ℕ) (behind : List (List ℕ)) (added : List Quad)
+    (good : Good loops points quads (before ++ (f ∷ behind))) (closes : Closes f added) where
   abbrev p : ℕ
   p = length points / 2
 
@@ -68,7 +65,7 @@ module _ (limit : Float) (loops : List (List ℕ)) (points : List Float) (quads 
           let e : laidCount loops (quads ++ added) a b + sidesOfAll a b (before ++ behind) ≡ laidCount loops quads a b + sidesOfAll a b (before ++ (f ∷ behind)) = omega (arith, laid-after a b, sides-split a b) in
           rw e (good .count a b)
 
-  pub close-good : Good limit loops points (quads ++ added) (before ++ behind)
+  pub close-good : Good loops points (quads ++ added) (before ++ behind)
   close-good = record {
     even = good .even;
     once = λ a. omega (arith, occurs-split a, good .once a);
@@ -82,7 +79,6 @@ module _ (limit : Float) (loops : List (List ℕ)) (points : List Float) (quads 
     freshRight = λ a b h. omega (arith, laid-after a b, good .freshRight a b h, sides-none-right a b f (low b h), no-chord-right a b (low b h));
     quadsLow = all-append (Below p) noQuad quads added (good .quadsLow)
         (λ i l. let w = closes .within i l in (below _ (w .0), below _ (w .1), below _ (w .2), below _ (w .3)));
-    corners = all-append (λ q. quadPasses limit points q ≡ true) noQuad quads added (good .corners) (closes .passed);
   }
     where
       below : (c : ℕ) → 0 < occurs c f → c < p

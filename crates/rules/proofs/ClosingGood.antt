@@ -15,11 +15,12 @@ use Rattle.state.specs.State.{Quad, quad, quadNodes, joined}
 use Rattle.rules.specs.Checks.{quadPasses}
 use Rattle.pairs.specs.Pairs.{isPair, sum, sides, sidesOfAll}
 use Rattle.rules.specs.Closing.{areaOf, turnedQuad, leastOf, closeFour, sixth, firstHalf, secondHalf, bestSplit, closure, keptFronts}
-use Rattle.rules.proofs.Lists.{and-left, and-right}
+use Rattle.rules.proofs.Lists.{and-left, and-right, all-append}
 use Rattle.pairs.proofs.Occurs.{occurs, occursInAll, occurs-here, occurs-append-all}
 use Rattle.pairs.proofs.Sides.{pair-le, pair-swap, quad-sides, quad-turned}
 use Rattle.pairs.proofs.Chords.{chord-apart}
 use Rattle.rules.proofs.Invariant.{Good, noQuad}
+use Rattle.rules.proofs.Corners.{AllPass}
 use Rattle.rules.proofs.Closes.{Within, Closes, close-good}
 
 -- ---- a quad turned or not
@@ -54,7 +55,7 @@ four-sides (x ∷ (y ∷ (z ∷ []))) a b e = absurd (omega arith)
 four-sides (x ∷ (y ∷ (z ∷ (w ∷ [])))) a b e = refl
 four-sides (x ∷ (y ∷ (z ∷ (w ∷ (v ∷ f))))) a b e = absurd (omega arith)
 
-four-closes : (limit : Float) (pts : List Float) (f : List ℕ) → length f ≡ 4 → (closeFour limit pts f ≡ []) ⊎ ((length (closeFour limit pts f) ≡ 1) × Closes limit pts f (closeFour limit pts f))
+four-closes : (limit : Float) (pts : List Float) (f : List ℕ) → length f ≡ 4 → (closeFour limit pts f ≡ []) ⊎ ((length (closeFour limit pts f) ≡ 1) × Closes f (closeFour limit pts f))
 unfolding closeFour
 four-closes limit pts f e = go (quadPasses limit pts q) refl
   where
@@ -64,7 +65,7 @@ four-closes limit pts f e = go (quadPasses limit pts q) refl
     q : Quad
     q = turnedQuad pts four
 
-    go : (t : Bool) → quadPasses limit pts q ≡ t → (cond t (q ∷ []) [] ≡ []) ⊎ ((length (cond t (q ∷ []) []) ≡ 1) × Closes limit pts f (cond t (q ∷ []) []))
+    go : (t : Bool) → quadPasses limit pts q ≡ t → (cond t (q ∷ []) [] ≡ []) ⊎ ((length (cond t (q ∷ []) []) ≡ 1) × Closes f (cond t (q ∷ []) []))
     go false h = inl refl
     go true h =
         inr (
@@ -75,17 +76,12 @@ four-closes limit pts f e = go (quadPasses limit pts q) refl
             atMost = λ a b. omega arith;
             across = λ a b l. absurd (omega arith);
             within = λ i l. one i l;
-            passed = λ i l. pass i l;
           },
         )
       where
         one : (i : ℕ) → i < 1 → Within f (getD (q ∷ []) i noQuad)
         one zero l = turned-nodes (λ c. 0 < occurs c f) pts four (occurs-here f 0 (omega arith), occurs-here f 1 (omega arith), occurs-here f 2 (omega arith), occurs-here f 3 (omega arith))
         one (suc i) l = absurd (omega arith)
-
-        pass : (i : ℕ) → i < 1 → quadPasses limit pts (getD (q ∷ []) i noQuad) ≡ true
-        pass zero l = h
-        pass (suc i) l = absurd (omega arith)
 
 -- ---- six nodes
 
@@ -159,26 +155,20 @@ module _ (pts : List Float) (f : List ℕ) (six : length f ≡ 6) (one : (c : �
           steps (suc (suc zero)) l h = omega arith
           steps (suc (suc (suc i))) l h = omega arith
 
-  split-closes : (limit : Float) → quadPasses limit pts (firstHalf pts f k) ≡ true → quadPasses limit pts (secondHalf pts f k) ≡ true → Closes limit pts f split
+  split-closes : Closes f split
   unfolding firstHalf secondHalf
-  split-closes limit p q = record {
+  split-closes = record {
     chord = chord;
     counted = split-counted;
     atMost = λ a b. pair-le a b (sixth f k) (sixth f (k + 3));
     across = split-across;
     within = within;
-    passed = passed;
   }
     where
       within : (i : ℕ) → i < 2 → Within f (getD split i noQuad)
       within zero l = turned-nodes (λ c. 0 < occurs c f) pts (quad (sixth f k) (sixth f (k + 1)) (sixth f (k + 2)) (sixth f (k + 3))) (place-mod k, place-mod (k + 1), place-mod (k + 2), place-mod (k + 3))
       within (suc zero) l = turned-nodes (λ c. 0 < occurs c f) pts (quad (sixth f k) (sixth f (k + 3)) (sixth f (k + 4)) (sixth f (k + 5))) (place-mod k, place-mod (k + 3), place-mod (k + 4), place-mod (k + 5))
       within (suc (suc i)) l = absurd (omega arith)
-
-      passed : (i : ℕ) → i < 2 → quadPasses limit pts (getD split i noQuad) ≡ true
-      passed zero l = p
-      passed (suc zero) l = q
-      passed (suc (suc i)) l = absurd (omega arith)
 
 -- the best split is none, or one of them whose quads both pass
 best-cases : (limit : Float) (pts : List Float) (f : List ℕ) (n : ℕ)
@@ -211,25 +201,67 @@ best-cases limit pts f (suc n) = go _ refl (best-cases limit pts f n)
 
 -- ---- any front
 
-closure-cases : (limit : Float) (pts : List Float) (f : List ℕ) → ((c : ℕ) → occurs c f ≤ 1) → (closure limit pts f ≡ []) ⊎ ((m : ℕ) × (length (closure limit pts f) ≡ suc m) × Closes limit pts f (closure limit pts f))
+closure-cases : (limit : Float) (pts : List Float) (f : List ℕ) → ((c : ℕ) → occurs c f ≤ 1) → (closure limit pts f ≡ []) ⊎ ((m : ℕ) × (length (closure limit pts f) ≡ suc m) × Closes f (closure limit pts f))
 unfolding closure
 closure-cases limit pts f one = go (eqb (length f) 4) refl (eqb (length f) 6) refl
   where
     go : (t : Bool) → eqb (length f) 4 ≡ t → (u : Bool) → eqb (length f) 6 ≡ u
         → (cond t (closeFour limit pts f) (cond u (bestSplit limit pts f 3 .quads) []) ≡ [])
-        ⊎ ((m : ℕ) × (length (cond t (closeFour limit pts f) (cond u (bestSplit limit pts f 3 .quads) [])) ≡ suc m) × Closes limit pts f (cond t (closeFour limit pts f) (cond u (bestSplit limit pts f 3 .quads) [])))
+        ⊎ ((m : ℕ) × (length (cond t (closeFour limit pts f) (cond u (bestSplit limit pts f 3 .quads) [])) ≡ suc m) × Closes f (cond t (closeFour limit pts f) (cond u (bestSplit limit pts f 3 .quads) [])))
     go true e u g = elim (four-closes limit pts f (eqb-true (length f) 4 e)) [ inl h ↦ inl h | inr h ↦ inr (0, h .0, h .1) ]
     go false e false g = inl refl
     go false e true g =
         elim (best-cases limit pts f 3) [
           | inl h ↦ inl h
-          | inr h ↦ inr (1, ap length (h .2), rw (h .2) (split-closes pts f (eqb-true (length f) 6 g) one (h .0) (h .1) limit (h .3) (h .4)))
+          | inr h ↦ inr (1, ap length (h .2), rw (h .2) (split-closes pts f (eqb-true (length f) 6 g) one (h .0) (h .1)))
         ]
+
+-- ---- the quads of a closing pass the limit
+
+four-passes : (limit : Float) (pts : List Float) (f : List ℕ) → AllPass limit pts (closeFour limit pts f)
+unfolding closeFour
+four-passes limit pts f = go (quadPasses limit pts q) refl
+  where
+    q : Quad
+    q = turnedQuad pts (quad (getD f 0 0) (getD f 1 0) (getD f 2 0) (getD f 3 0))
+
+    go : (t : Bool) → quadPasses limit pts q ≡ t → AllPass limit pts (cond t (q ∷ []) [])
+    go false h i l = absurd (omega arith)
+    go true h zero l = h
+    go true h (suc i) l = absurd (omega arith)
+
+best-passes : (limit : Float) (pts : List Float) (f : List ℕ) (n : ℕ) → AllPass limit pts (bestSplit limit pts f n .quads)
+best-passes limit pts f n = go (best-cases limit pts f n)
+  where
+    two : (p q : Quad) → quadPasses limit pts p ≡ true → quadPasses limit pts q ≡ true → AllPass limit pts (p ∷ q ∷ [])
+    two p q h g zero l = h
+    two p q h g (suc zero) l = g
+    two p q h g (suc (suc i)) l = absurd (omega arith)
+
+    go : (bestSplit limit pts f n .quads ≡ [])
+        ⊎ ((k : ℕ) × (k < n) × (bestSplit limit pts f n .quads ≡ firstHalf pts f k ∷ secondHalf pts f k ∷ []) × (quadPasses limit pts (firstHalf pts f k) ≡ true) × (quadPasses limit pts (secondHalf pts f k) ≡ true))
+        → AllPass limit pts (bestSplit limit pts f n .quads)
+    go (inl h) = rw h (λ i l. absurd (omega arith))
+    go (inr h) = rw (h .2) (two _ _ (h .3) (h .4))
+
+closure-passes : (limit : Float) (pts : List Float) (f : List ℕ) → AllPass limit pts (closure limit pts f)
+unfolding closure
+closure-passes limit pts f = go (eqb (length f) 4) (eqb (length f) 6)
+  where
+    go : (t u : Bool) → AllPass limit pts (cond t (closeFour limit pts f) (cond u (bestSplit limit pts f 3 .quads) []))
+    go true u = four-passes limit pts f
+    go false true = best-passes limit pts f 3
+    go false false = λ i l. absurd (omega arith)
+
+pub closures-pass : (limit : Float) (pts : List Float) (fronts : List (List ℕ)) → AllPass limit pts (joined (map (closure limit pts) fronts))
+unfolding joined
+closures-pass limit pts [] = λ i l. absurd (omega arith)
+closures-pass limit pts (f ∷ fronts) = all-append (λ q. quadPasses limit pts q ≡ true) noQuad (closure limit pts f) _ (closure-passes limit pts f) (closures-pass limit pts fronts)
 
 -- ---- all fronts, by number
 
-pub closing-good : (limit : Float) (loops : List (List ℕ)) (pts : List Float) (quads : List Quad) (before fronts : List (List ℕ)) → Good limit loops pts quads (before ++ fronts)
-    → Good limit loops pts (quads ++ joined (map (closure limit pts) fronts)) (before ++ keptFronts limit pts fronts)
+pub closing-good : (limit : Float) (loops : List (List ℕ)) (pts : List Float) (quads : List Quad) (before fronts : List (List ℕ)) → Good loops pts quads (before ++ fronts)
+    → Good loops pts (quads ++ joined (map (closure limit pts) fronts)) (before ++ keptFronts limit pts fronts)
 unfolding keptFronts joined
 closing-good limit loops pts quads before [] good = rw (append-nil quads) good
 closing-good limit loops pts quads before (f ∷ fronts) good = go (closure-cases limit pts f one) (λ laid kept g. closing-good limit loops pts laid kept fronts g)
@@ -240,14 +272,14 @@ closing-good limit loops pts quads before (f ∷ fronts) good = go (closure-case
     one : (c : ℕ) → occurs c f ≤ 1
     one c = unfold occursInAll in omega (arith, occurs-append-all c before (f ∷ fronts), good .once c)
 
-    go : (closure limit pts f ≡ []) ⊎ ((m : ℕ) × (length (closure limit pts f) ≡ suc m) × Closes limit pts f (closure limit pts f))
-        → ((laid : List Quad) (kept : List (List ℕ)) → Good limit loops pts laid (kept ++ fronts) → Good limit loops pts (laid ++ rest) (kept ++ keptFronts limit pts fronts))
-        → Good limit loops pts (quads ++ (closure limit pts f ++ rest)) (before ++ cond (eqb (length (closure limit pts f)) 0) (f ∷ keptFronts limit pts fronts) (keptFronts limit pts fronts))
+    go : (closure limit pts f ≡ []) ⊎ ((m : ℕ) × (length (closure limit pts f) ≡ suc m) × Closes f (closure limit pts f))
+        → ((laid : List Quad) (kept : List (List ℕ)) → Good loops pts laid (kept ++ fronts) → Good loops pts (laid ++ rest) (kept ++ keptFronts limit pts fronts))
+        → Good loops pts (quads ++ (closure limit pts f ++ rest)) (before ++ cond (eqb (length (closure limit pts f)) 0) (f ∷ keptFronts limit pts fronts) (keptFronts limit pts fronts))
     go (inl h) others =
         rw h
-        (subst (λ t. Good limit loops pts (quads ++ rest) t) (append-assoc before (f ∷ []) (keptFronts limit pts fronts))
-        (others quads (before ++ (f ∷ [])) (subst (λ t. Good limit loops pts quads t) (sym (append-assoc before (f ∷ []) fronts)) good)))
+        (subst (λ t. Good loops pts (quads ++ rest) t) (append-assoc before (f ∷ []) (keptFronts limit pts fronts))
+        (others quads (before ++ (f ∷ [])) (subst (λ t. Good loops pts quads t) (sym (append-assoc before (f ∷ []) fronts)) good)))
     go (inr h) others =
         rw (ne-eqb (length (closure limit pts f)) 0 (λ e. omega (arith, h .1)))
-        (subst (λ t. Good limit loops pts t (before ++ keptFronts limit pts fronts)) (append-assoc quads (closure limit pts f) rest)
-        (others (quads ++ closure limit pts f) before (close-good limit loops pts quads before f fronts (closure limit pts f) good (h .2))))
+        (subst (λ t. Good loops pts t (before ++ keptFronts limit pts fronts)) (append-assoc quads (closure limit pts f) rest)
+        (others (quads ++ closure limit pts f) before (close-good loops pts quads before f fronts (closure limit pts f) good (h .2))))

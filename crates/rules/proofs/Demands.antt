@@ -15,7 +15,6 @@ use Rattle.state.specs.Coordinates.{wrongCoordinate}
 use Rattle.state.specs.Given.{wrongState}
 use Rattle.state.specs.Call.{numberOf}
 use Rattle.input.specs.Job.{Job}
-use Rattle.input.specs.Limit.{cornerLimit}
 use Rattle.input.proofs.Shape.{accepted}
 use Rattle.geometry.proofs.Sizes.{all-less}
 use Rattle.state.specs.Outcome.{gives}
@@ -23,28 +22,29 @@ use Rattle.rules.specs.Passes.{somePasses}
 use Rattle.rules.specs.Closing.{closure, closed}
 use Rattle.rules.specs.Calls.{jobCall}
 use Rattle.pairs.specs.Pairs.{pairCount}
-use Rattle.rules.specs.Demands.{Tiled, Reached, byJob, byFan, Laid, underLimit, Begins, Demand3}
+use Rattle.rules.specs.Demands.{Tiled, Reached, byJob, byCall, byFan, Laid, underLimit, Begins, Demand3}
 use Rattle.state.proofs.Outcomes.{gives-same}
 use Rattle.state.proofs.Written.{reading-written}
 use Rattle.state.proofs.Growing.{numbers, numbers-append, length-numbers}
+use Rattle.rules.proofs.Corners.{Passed}
 use Rattle.rules.proofs.Allowed.{Stands, number-25}
 use Rattle.rules.proofs.SampleGood.{sampled-began, sampled-stands}
 use Rattle.rules.proofs.PassGood.{Advances, row-one-each, passes-prefix, passes-advance}
 use Rattle.rules.proofs.SampleSizes.{all-right, limited, sampled-all}
 use Rattle.rules.proofs.PassSizes.{passes-all}
 use Rattle.rules.proofs.Limits.{sampled-same, passes-same}
-use Rattle.rules.proofs.Answers.{Made, job-accepted, paved-made, closings-give, rows-stand, read-back, reached-holds}
+use Rattle.rules.proofs.Answers.{Made, job-accepted, paved-made, closings-give, rows-stand, read-back, call-follows, reached-holds}
 
 -- ---- any use of the calls
 
-stands-tiled : (loops : List (List ℕ)) (s : State) → Stands loops s → Tiled loops s
+stands-tiled : (loops : List (List ℕ)) (limits : List Float) (s : State) → Stands loops s → Passed limits (s .points) (s .quads) → Tiled loops limits s
 unfolding pairCount
-stands-tiled loops s g = record { corners = g .good .corners; pairs = g .good .count }
+stands-tiled loops limits s g p = record { each = p .each; corners = p .corners; pairs = g .good .count }
 
-reached-tiled : {loops : List (List ℕ)} {b : Held} → Reached loops b → Tiled loops (reading b)
-reached-tiled {loops} r = let h = reached-holds r in rw (read-back h) (stands-tiled loops (h .state) (h .stands))
+reached-tiled : {loops : List (List ℕ)} {limits : List Float} {b : Held} → Reached loops limits b → Tiled loops limits (reading b)
+reached-tiled {loops} {limits} r = let h = reached-holds r in rw (read-back h) (stands-tiled loops limits (h .state) (h .stands) (h .passed))
 
-reached-taken : {loops : List (List ℕ)} {b : Held} → Reached loops b → wrongState b ≡ wrongCoordinate (decimal 1000000000 0) (reading b .points)
+reached-taken : {loops : List (List ℕ)} {limits : List Float} {b : Held} → Reached loops limits b → wrongState b ≡ wrongCoordinate (decimal 1000000000 0) (reading b .points)
 reached-taken {loops} r = let h = reached-holds r in ap wrongState (h .heldIs) ∙ number-25 loops (h .state) (h .stands) ∙ ap (λ s. wrongCoordinate (decimal 1000000000 0) (s .points)) (sym (read-back h))
 
 -- ---- an accepted job
@@ -53,10 +53,10 @@ reached-taken {loops} r = let h = reached-holds r in ap wrongState (h .heldIs) �
 record Rows (j : Job) (l : Lengths) : Type 0 where
   pub state : State
   pub made : Made j state
-  pub heldIs : jobCall j l .held ≡ written (closed cornerLimit (made .rows))
-  pub readIs : reading (jobCall j l .held) ≡ closed cornerLimit (made .rows)
+  pub heldIs : jobCall j l .held ≡ written (closed (j .options .«corner_limit») (made .rows))
+  pub readIs : reading (jobCall j l .held) ≡ closed (j .options .«corner_limit») (made .rows)
   pub even : length (made .rows .points) % 2 ≡ 0
-  pub advance : Advances (made .start) (made .rows)
+  pub advance : Advances j (made .start) (made .rows)
   -- laid is all that the rows laid
   pub all : made .rows .laid ≡ length (made .rows .quads)
 
@@ -65,7 +65,7 @@ unfolding jobCall closed
 rows-of j l e =
     let a = job-accepted j l e in
     let m = paved-made j (a .state) (a .madeIs) in
-    let is = closings-give cornerLimit (m .rows) (a .state) (m .closingsAre) .0 in
+    let is = closings-give (j .options .«corner_limit») (m .rows) (a .state) (m .closingsAre) .0 in
     let adv = passes-advance j (j .options .«max_row_rounds») (m .start) (m .rows) (m .passesAre) in
     let fresh = sampled-began j (m .start) (m .sampledIs) .fresh in
     let even = rows-stand j l (a .state) (a .input) m .good .even in
@@ -73,7 +73,7 @@ rows-of j l e =
       state = a .state;
       made = m;
       heldIs = a .heldIs ∙ ap written is;
-      readIs = ap reading (a .heldIs ∙ ap written is) ∙ reading-written (closed cornerLimit (m .rows)) even;
+      readIs = ap reading (a .heldIs ∙ ap written is) ∙ reading-written (closed (j .options .«corner_limit») (m .rows)) even;
       even = even;
       advance = adv;
       all = adv .laidAll (fresh .noneLaid ∙ sym (ap length (fresh .none)));
@@ -86,6 +86,7 @@ job-laid j l e =
     let u = r .made .rows in
     let s = r .made .start in
     let adv = r .advance in
+    let more = adv .lays in
     let none : length (s .quads) ≡ 0 = ap length (sampled-began j s (r .made .sampledIs) .fresh .none) in
     let points : reading (jobCall j l .held) .points ≡ u .points = ap (λ t. t .points) (r .readIs) in
     let laid : jobCall j l .held .counts .laid ≡ length (u .quads) = ap (λ b. b .counts .laid) (r .heldIs) ∙ r .all in
@@ -95,10 +96,10 @@ job-laid j l e =
       rows = u;
       passesAre = r .made .passesAre;
       points = points;
-      sampledFirst = rw (points, adv .pointsAre) (take-at (s .points) (adv .morePoints) (length (s .points)) refl);
+      sampledFirst = rw (points, more .pointsAre) (take-at (s .points) (more .morePoints) (length (s .points)) refl);
       laidIs = laid;
       quadsFirst = rw (laid, r .readIs) (take-at (u .quads) _ (length (u .quads)) refl);
-      oneForEach = omega (arith, ap length (adv .pointsAre), ap length (adv .quadsAre), length-append (s .points) (adv .morePoints), length-append (s .quads) (adv .moreQuads), adv .oneForEach);
+      oneForEach = omega (arith, ap length (more .pointsAre), ap length (more .quadsAre), length-append (s .points) (more .morePoints), length-append (s .quads) (more .moreQuads), adv .oneForEach);
     }
 
 -- its points are finite and within 1,000,000,000: sampled ones within 419,777,216, and 6,000,000 more for each of 64 passes at most
@@ -127,19 +128,19 @@ first-of : {A : Type 0} (xs more rest : List A) (n : ℕ) → length xs ≡ n �
 first-of xs more rest n e = rw (append-assoc xs more rest) (take-at xs (more ++ rest) n e)
 
 -- two states that the rows left, one going on from the other, after their closings
-module _ (s t : State) (adv : Advances s t) (all : s .laid ≡ length (s .quads)) (even : length (s .points) % 2 ≡ 0) where
+module _ (j : Job) (s t : State) (adv : Advances j s t) (all : s .laid ≡ length (s .quads)) (even : length (s .points) % 2 ≡ 0) where
   -- what stands behind the written points and quads of each
   points-first : take (nodes s * 2) (padded pointsLength (decimal 0 0) (t .points)) ≡ s .points
-  points-first = rw (adv .pointsAre) (first-of (s .points) (adv .morePoints) _ (nodes s * 2) (omega arith))
+  points-first = rw (adv .lays .pointsAre) (first-of (s .points) (adv .lays .morePoints) _ (nodes s * 2) (omega arith))
 
   quads-first : (added : List Quad) → take (s .laid * 4) (padded quadsLength 0 (numbers (t .quads ++ added))) ≡ numbers (s .quads)
-  quads-first added = rw (all, adv .quadsAre, append-assoc (s .quads) (adv .moreQuads) added) (first-quads (s .quads) (adv .moreQuads ++ added) _)
+  quads-first added = rw (all, adv .lays .quadsAre, append-assoc (s .quads) (adv .lays .moreQuads) added) (first-quads (s .quads) (adv .lays .moreQuads ++ added) _)
 
   closed-begins : (limit : Float) → Begins (written (closed limit s)) (written (closed limit t))
   unfolding written closed
   closed-begins limit = record {
-    fewerPoints = rw (adv .pointsAre) (omega (arith, length-append (s .points) (adv .morePoints)));
-    fewerLaid = rw (all, adv .laidAll all, adv .quadsAre) (omega (arith, length-append (s .quads) (adv .moreQuads)));
+    fewerPoints = rw (adv .lays .pointsAre) (omega (arith, length-append (s .points) (adv .lays .morePoints)));
+    fewerLaid = rw (all, adv .laidAll all, adv .lays .quadsAre) (omega (arith, length-append (s .quads) (adv .lays .moreQuads)));
     samePoints = take-at (s .points) _ (nodes s * 2) (omega arith) ∙ sym points-first;
     sameQuads = ap (λ n. take (n * 4) (padded quadsLength 0 (numbers (s .quads ++ joined (map (closure limit (s .points)) (s .fronts)))))) all
         ∙ first-quads (s .quads) (joined (map (closure limit (s .points)) (s .fronts))) _
@@ -157,14 +158,15 @@ begins j l p q le e f =
     let same : b .made .start ≡ s = gives-same (sym (b .made .sampledIs) ∙ sym (sampled-same j p q) ∙ a .made .sampledIs) in
     let later : somePasses (underLimit j p) q s ≡ gives v = passes-same j p q q s ∙ ap (somePasses (underLimit j q) q) (sym same) ∙ b .made .passesAre in
     let adv = passes-prefix (underLimit j p) p q s u v le (a .made .passesAre) later in
-    subst₂ Begins (sym (a .heldIs)) (sym (b .heldIs)) (closed-begins u v adv (a .all) (a .even) cornerLimit)
+    subst₂ Begins (sym (a .heldIs)) (sym (b .heldIs)) (closed-begins (underLimit j p) u v adv (a .all) (a .even) (j .options .«corner_limit»))
 
 pub demand-3 : Demand3
 demand-3 = record {
   prefix = begins;
   answer = λ j l e. reached-tiled (byJob j l e);
-  fan = λ j k l e. reached-tiled (byFan k (byJob j l e));
+  fan = λ j k l e. reached-tiled (byCall (byJob j l e) (byFan k));
   anyUse = reached-tiled;
+  behind = λ r c. call-follows (reached-holds r) c .behind;
   takenBack = reached-taken;
   acceptedBack = job-taken;
   row = row-one-each;

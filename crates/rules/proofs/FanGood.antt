@@ -1,6 +1,5 @@
 -- A fan of the one front that is left keeps the invariant, with no front left.
 use mathlib.Core.Path.{_≡_, refl, ap, sym, _∙_}
-use mathlib.Core.Bool.{true}
 use mathlib.Core.List.{List, [], _∷_, _++_, map, map-append}
 use mathlib.Core.Logic.{_⊎_, inl, inr}
 use Prim.Native.Nat.{ℕ, zero, suc, _+_, _*_, _/_, _%_, _≤_, _<_}
@@ -10,7 +9,6 @@ use lib.ListN.{length, getD, length-append}
 use lib.Ieee.{Float}
 use Rattle.geometry.specs.Rings.{next}
 use Rattle.state.specs.State.{Quad, quad, quadNodes}
-use Rattle.rules.specs.Checks.{quadPasses}
 use Rattle.pairs.specs.Pairs.{isPair, sum, sides, sidesOfAll}
 use Rattle.rules.specs.Closing.{turnedQuad}
 use Rattle.rules.specs.Fan.{fanQuads}
@@ -18,7 +16,7 @@ use Rattle.rules.proofs.Lists.{all-append, below-or-from, twice}
 use Rattle.pairs.proofs.Sums.{sum-cong, sum-add, sum-none, sum-once, sum-next, sum-pairs}
 use Rattle.pairs.proofs.Occurs.{occurs, occursInAll, occurs-none, occurs-once}
 use Rattle.pairs.proofs.Sides.{pair-cases, pair-le, pair-not-left, pair-flip, pair-swap, next-cases, quad-sides, sides-append-all, sides-none-left, sides-none-right}
-use Rattle.rules.proofs.Invariant.{Good, Below, noQuad, laidCount, laid-append, passes-append}
+use Rattle.rules.proofs.Invariant.{Good, Below, noQuad, laidCount, laid-append}
 use Rattle.rules.proofs.ClosingGood.{turned-sides, turned-nodes}
 
 pub fan-length : (pts : List Float) (f : List ℕ) (c k : ℕ) → length (fanQuads pts f c k) ≡ k
@@ -132,7 +130,7 @@ module _ (a b : ℕ) (pts : List Float) (f : List ℕ) (c m : ℕ) (even : lengt
           | inr (inr x) ↦ absurd (omega (arith, x))
         ])
 
-module _ (limit : Float) (loops : List (List ℕ)) (points : List Float) (quads : List Quad) (f : List ℕ) (good : Good limit loops points quads (f ∷ [])) (more : List Float) (m : ℕ) (even : length f ≡ 2 * m) where
+module _ (loops : List (List ℕ)) (points : List Float) (quads : List Quad) (f : List ℕ) (good : Good loops points quads (f ∷ [])) (more : List Float) (m : ℕ) (even : length f ≡ 2 * m) where
   abbrev p : ℕ
   p = length points / 2
 
@@ -187,10 +185,9 @@ module _ (limit : Float) (loops : List (List ℕ)) (points : List Float) (quads 
       last zero h = turned-nodes (λ c. c < p + 1) (points ++ more) _ (omega arith, node (2 * k), node (2 * k + 1), node (2 * k + 2))
       last (suc i) h = absurd (omega arith)
 
-  pub fan-good : length more ≡ 2 → ((i : ℕ) → i < m → quadPasses limit (points ++ more) (getD (fanQuads (points ++ more) f (length points / 2) m) i noQuad) ≡ true)
-      → Good limit loops (points ++ more) (quads ++ fanQuads (points ++ more) f (length points / 2) m) []
+  pub fan-good : length more ≡ 2 → Good loops (points ++ more) (quads ++ fanQuads (points ++ more) f (length points / 2) m) []
   unfolding occursInAll sidesOfAll
-  fan-good centre passed = record {
+  fan-good centre = record {
     even = omega (arith, length-append points more, good .even);
     once = λ a. omega arith;
     low = λ a h. refl;
@@ -206,8 +203,6 @@ module _ (limit : Float) (loops : List (List ℕ)) (points : List Float) (quads 
         (all-append (Below (p + 1)) noQuad quads fanAdded
         (λ i l. let q = good .quadsLow i l in (omega (arith, q .0), omega (arith, q .1), omega (arith, q .2), omega (arith, q .3)))
         (fan-low m (omega arith)));
-    corners = all-append (λ q. quadPasses limit (points ++ more) q ≡ true) noQuad quads fanAdded (λ i l. passes-append limit points more (getD quads i noQuad) (good .quadsLow i l) ∙ good .corners i l)
-        (λ i l. passed i (omega (arith, fan-length (points ++ more) f p m)));
   }
     where
       nodes-after : length (points ++ more) / 2 ≡ p + 1

@@ -1,6 +1,5 @@
--- What holds of points, quads and fronts through sampling, passes and closings, whatever was laid: demand 3 is a part of it.
+-- What holds of points, quads and fronts through sampling, passes and closings, whatever was laid: demand 3's pairs are a part of it. (Its corners are in Corners.)
 use mathlib.Core.Path.{_≡_}
-use mathlib.Core.Bool.{true}
 use mathlib.Core.List.{List, _++_, map, map-append}
 use mathlib.Core.Logic.{_⊎_}
 use Prim.Native.Nat.{ℕ, _+_, _/_, _%_, _≤_, _<_}
@@ -8,9 +7,7 @@ use native.Mathlib.Omega.{arith}
 use lib.ListN.{length, getD}
 use lib.Ieee.{Float}
 use Rattle.state.specs.State.{Quad, quad, quadNodes}
-use Rattle.rules.specs.Checks.{quadPasses}
 use Rattle.pairs.specs.Pairs.{sidesOfAll}
-use Rattle.rules.proofs.Lists.{point-append}
 use Rattle.pairs.proofs.Occurs.{occursInAll}
 use Rattle.pairs.proofs.Sides.{sides-append-all}
 
@@ -25,7 +22,7 @@ Below p q = (q .a < p) × (q .b < p) × (q .c < p) × (q .d < p)
 abbrev pub noQuad : Quad
 noQuad = quad 0 0 0 0
 
-pub record Good (limit : Float) (loops : List (List ℕ)) (points : List Float) (quads : List Quad) (fronts : List (List ℕ)) : Type 0 where
+pub record Good (loops : List (List ℕ)) (points : List Float) (quads : List Quad) (fronts : List (List ℕ)) : Type 0 where
   pub even : length points % 2 ≡ 0
   -- front nodes are all different, and below the points
   pub once : (a : ℕ) → occursInAll a fronts ≤ 1
@@ -38,13 +35,6 @@ pub record Good (limit : Float) (loops : List (List ℕ)) (points : List Float) 
   pub freshLeft : (a b : ℕ) → length points / 2 ≤ a → laidCount loops quads a b ≡ 0
   pub freshRight : (a b : ℕ) → length points / 2 ≤ b → laidCount loops quads a b ≡ 0
   pub quadsLow : (i : ℕ) → i < length quads → Below (length points / 2) (getD quads i noQuad)
-  pub corners : (i : ℕ) → i < length quads → quadPasses limit points (getD quads i noQuad) ≡ true
 
 pub laid-append : (loops : List (List ℕ)) (quads more : List Quad) (a b : ℕ) → laidCount loops (quads ++ more) a b ≡ laidCount loops quads a b + sidesOfAll a b (map quadNodes more)
 laid-append loops quads more a b = rw (map-append quadNodes quads more) (omega (arith, sides-append-all a b (map quadNodes quads) (map quadNodes more)))
-
--- quads keep their corner values because points are only added
-pub passes-append : (limit : Float) (points more : List Float) (q : Quad) → Below (length points / 2) q → quadPasses limit (points ++ more) q ≡ quadPasses limit points q
-unfolding quadPasses
-passes-append limit points more q l =
-    rw (point-append points more (q .a) (l .0), point-append points more (q .b) (l .1), point-append points more (q .c) (l .2), point-append points more (q .d) (l .3))

@@ -2,7 +2,9 @@ pub mod Lists
 pub mod Every
 pub mod RowSides
 pub mod Invariant
+pub mod Corners
 pub mod Allowed
+pub mod Laying
 pub mod RowGood
 pub mod Closes
 pub mod ClosingGood

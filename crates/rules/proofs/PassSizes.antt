@@ -133,4 +133,4 @@ passes-all j lim loops (suc k) n s t few e g a = go (onePass j s) refl (λ v d h
 
         pick : (b : Bool) → (elim b as (λ _. Outcome State) [ true ↦ gives v | false ↦ somePasses j k v ]) ≡ gives t → All (n + suc k * 6000000) (t .points)
         pick true h = subst (λ u. All (n + suc k * 6000000) (u .points)) (gives-same h) (all-less (v .points) (omega arith) after)
-        pick false h = all-less (t .points) (omega arith) (rest v h (pass-advances j s v d .keeps loops g) after)
+        pick false h = all-less (t .points) (omega arith) (rest v h (pass-advances j s v d .lays .keeps loops g) after)

@@ -7,7 +7,6 @@ use lib.Dec.{eqb, leb}
 use lib.ListN.{length, drop}
 use Rattle.state.specs.State.{State, Held, Lengths, lengths, zeros, written, reading}
 use Rattle.input.specs.Job.{Job, inputNumber}
-use Rattle.input.specs.Limit.{cornerLimit}
 use Rattle.state.specs.Outcome.{Outcome, refused, gives, firstOf, test}
 use Rattle.sampling.specs.Sample.{sampled, onJob, sampleCall}
 use Rattle.rules.specs.Row.{nextRow}
@@ -63,10 +62,10 @@ input-job = refl
 pub paved-in : (j : Job) → RefusedIn jobRefusals (paved j)
 unfolding paved
 paved-in j =
-    then-in jobRefusals _ (closings cornerLimit)
+    then-in jobRefusals _ _
     (then-in jobRefusals (sampled j) _ (widen (sampled j) loopNumbers jobRefusals loop-job (sampled-in j))
     (λ s. widen (somePasses j (j .options .«max_row_rounds») s) (21 ∷ []) jobRefusals full-job (passes-in j (j .options .«max_row_rounds») s)))
-    (λ s. widen (closings cornerLimit s) (21 ∷ []) jobRefusals full-job (closings-in cornerLimit s))
+    (λ s. widen _ (21 ∷ []) jobRefusals full-job (closings-in _ s))
 
 -- what a job comes to, before it is written
 abbrev jobOutcome : Job → Lengths → Outcome State
@@ -159,7 +158,7 @@ close-widens = refl
 
 close-listed : (j : Job) (b : Held) → Listed closeNumbers b (closeCall j b)
 unfolding closeCall allMembers member
-close-listed j b = state-listed j b closeOnly (closings cornerLimit) refl refl (λ s. widen (closings cornerLimit s) (21 ∷ []) closeOnly close-widens (closings-in cornerLimit s))
+close-listed j b = state-listed j b closeOnly _ refl refl (λ s. widen _ (21 ∷ []) closeOnly close-widens (closings-in _ s))
 
 abbrev fanOnly : List ℕ
 fanOnly = drop 1 fanNumbers
@@ -170,7 +169,7 @@ fan-widens = refl
 
 fan-listed : (j : Job) (b : Held) → Listed fanNumbers b (fanCall j b)
 unfolding fanCall allMembers member
-fan-listed j b = state-listed j b fanOnly (fan cornerLimit j) refl refl (λ s. widen (fan cornerLimit j s) fanRefusals fanOnly fan-widens (fan-in cornerLimit j s))
+fan-listed j b = state-listed j b fanOnly _ refl refl (λ s. widen _ fanRefusals fanOnly fan-widens (fan-in _ j s))
 
 pub demand-1 : Demand1
 demand-1 = record { job = job-listed; sample = sample-listed; row = row-listed; close = close-listed; fan = fan-listed }

@@ -1,6 +1,5 @@
 -- A row keeps the invariant: the front is replaced, n points and n quads are added.
 use mathlib.Core.Path.{_≡_, refl, ap, _∙_}
-use mathlib.Core.Bool.{true}
 use mathlib.Core.List.{List, [], _∷_, _++_}
 use mathlib.Core.Logic.{_⊎_, inl, inr}
 use Prim.Native.Nat.{ℕ, zero, suc, _+_, _*_, _/_, _%_, _≤_, _<_}
@@ -9,14 +8,14 @@ use lib.ListN.{length, getD, set, length-append}
 use lib.Ieee.{Float}
 use Rattle.geometry.specs.Rings.{next}
 use Rattle.state.specs.State.{Quad, quad, numbered}
-use Rattle.rules.specs.Checks.{quadPasses, rowQuads}
+use Rattle.rules.specs.Checks.{rowQuads}
 use Rattle.pairs.specs.Pairs.{sides, sidesOfAll}
 use Rattle.rules.proofs.Lists.{all-append, below-or-from, twice}
 use Rattle.pairs.proofs.Occurs.{occurs, occursInAll, occurs-none, occurs-set, occurs-le, numbered-before, numbered-beyond, numbered-once}
 use Rattle.state.proofs.Growing.{length-numbered}
 use Rattle.pairs.proofs.Sides.{next-below, sides-none-left, sides-none-right, sides-once, sides-set, sides-none-left-all, sides-none-right-all}
 use Rattle.rules.proofs.RowSides.{row-length, row-sides, rungs, rungs-old, rungs-new, rungs-none-left, rungs-none-right, rungs-once}
-use Rattle.rules.proofs.Invariant.{Good, Below, noQuad, laidCount, laid-append, passes-append}
+use Rattle.rules.proofs.Invariant.{Good, Below, noQuad, laidCount, laid-append}
 
 -- the list is not empty, so its place is in the list of lists
 in-reach : (xss : List (List ℕ)) (i : ℕ) → 0 < length (getD xss i []) → i < length xss
@@ -42,9 +41,8 @@ row-low old p low (suc k) l =
         (omega arith, omega arith, omega arith, omega arith)
     last (suc i) m = absurd (omega arith)
 
-module _ (limit : Float) (loops : List (List ℕ)) (points : List Float) (quads : List Quad) (fronts : List (List ℕ)) (li : ℕ) (good : Good limit loops points quads fronts)
-    (more : List Float) (six : 6 ≤ length (getD fronts li [])) (long : length more ≡ length (getD fronts li []) * 2)
-    (passed : (i : ℕ) → i < length (getD fronts li []) → quadPasses limit (points ++ more) (getD (rowQuads (getD fronts li []) (length points / 2) (length (getD fronts li []))) i noQuad) ≡ true) where
+module _ (loops : List (List ℕ)) (points : List Float) (quads : List Quad) (fronts : List (List ℕ)) (li : ℕ) (good : Good loops points quads fronts)
+    (more : List Float) (six : 6 ≤ length (getD fronts li [])) (long : length more ≡ length (getD fronts li []) * 2) where
   abbrev old : List ℕ
   old = getD fronts li []
 
@@ -126,7 +124,7 @@ module _ (limit : Float) (loops : List (List ℕ)) (points : List Float) (quads 
           omega
           (arith, laid-after a b, sides-after a b, good .freshLeft a b x, sides-none-left-all a b fronts (good .low a x), sides-none-left a b old (old-low a x), rungs-new a b old p old-low x y)
 
-  pub row-good : Good limit loops (points ++ more) (quads ++ rowQuads (getD fronts li []) (length points / 2) (length (getD fronts li []))) (set fronts li (numbered (length points / 2) (length (getD fronts li []))))
+  pub row-good : Good loops (points ++ more) (quads ++ rowQuads (getD fronts li []) (length points / 2) (length (getD fronts li []))) (set fronts li (numbered (length points / 2) (length (getD fronts li []))))
   row-good = record {
     even = omega (arith, length-append points more, even);
     once = λ a. elim (below-or-from a p) [
@@ -148,6 +146,4 @@ module _ (limit : Float) (loops : List (List ℕ)) (points : List Float) (quads 
         (all-append (Below (p + n)) noQuad quads (rowQuads old p n)
         (λ i l. let q = good .quadsLow i l in (omega (arith, q .0), omega (arith, q .1), omega (arith, q .2), omega (arith, q .3)))
         (row-low old p (λ i l. elim (below-or-from (getD old i 0) p) [ inl h ↦ h | inr h ↦ absurd (occurs-none (getD old i 0) old i (old-low (getD old i 0) h) l refl) ]) n (omega arith)));
-    corners = all-append (λ q. quadPasses limit (points ++ more) q ≡ true) noQuad quads (rowQuads old p n) (λ i l. passes-append limit points more (getD quads i noQuad) (good .quadsLow i l) ∙ good .corners i l)
-        (λ i l. passed i (omega (arith, row-length old p n)));
   }

@@ -18,7 +18,6 @@ use Rattle.state.specs.Outcome.{gives, firstOf, test}
 use Rattle.state.proofs.Basics.{or-false}
 use Rattle.state.proofs.Outcomes.{first-none, numbered-gives}
 use Rattle.input.specs.Job.{Job}
-use Rattle.input.specs.Limit.{cornerLimit}
 use Rattle.rules.specs.declared.Projection.{Projection}
 use Rattle.rules.specs.declared.Projection.the-variants.{At, Nothing}
 use Rattle.rules.specs.Projecting.{projectionNumber, projectionValues}
@@ -71,11 +70,11 @@ module _ (j : Job) (pts : List Float) (fronts : List (List ℕ)) (li : ℕ) (sta
       allInside outline new n && allOffBoundary outline (decimal 5 2 ⊗ j .h) new n && allLongEnough (j .options .«min_edge_fraction» ⊗ j .h) new n
       && allClearOfFronts pts fronts li (j .options .«front_gap» ⊗ j .h) new n && isSimple (ringOf new n)
 
-  cornersHold : allCornersPass cornerLimit pts old new ≡ true
+  cornersHold : allCornersPass (j .options .«corner_limit») pts old new ≡ true
   unfolding restStands
-  cornersHold = and-right before (allCornersPass cornerLimit pts old new) rest
+  cornersHold = and-right before (allCornersPass (j .options .«corner_limit») pts old new) rest
 
-  pub corners : (i : ℕ) → i < n → quadPasses cornerLimit (pts ++ new) (getD (newQuads pts old) i (quad 0 0 0 0)) ≡ true
+  pub corners : (i : ℕ) → i < n → quadPasses (j .options .«corner_limit») (pts ++ new) (getD (newQuads pts old) i (quad 0 0 0 0)) ≡ true
   corners i l = every-at _ n i cornersHold l
 
 -- ---- a granted row: it stands, there is room for it, and this is what it leaves

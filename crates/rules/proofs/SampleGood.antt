@@ -17,7 +17,6 @@ use Rattle.state.specs.Limits.{frontLimit, frontNodeLimit}
 use Rattle.state.specs.State.{State, nodes, numbered, joined}
 use Rattle.state.specs.Given.{some}
 use Rattle.input.specs.Job.{Job, loopLimit}
-use Rattle.input.specs.Limit.{cornerLimit}
 use Rattle.state.specs.Outcome.{Outcome, refused, gives}
 use Rattle.planning.specs.Ring.{loopRing}
 use Rattle.planning.specs.Plan.{planned}
@@ -198,9 +197,9 @@ sampled-began j s e =
 
 -- ---- the invariant, with the fronts as the sampled loops
 
-fresh-good : (limit : Float) (s : State) → Fresh s → Good limit (s .fronts) (s .points) (s .quads) (s .fronts)
+fresh-good : (s : State) → Fresh s → Good (s .fronts) (s .points) (s .quads) (s .fronts)
 unfolding sidesOfAll
-fresh-good limit s fresh = rw (fresh .none) (record {
+fresh-good s fresh = rw (fresh .none) (record {
   even = fresh .even;
   once = fresh .once;
   low = fresh .low;
@@ -209,7 +208,6 @@ fresh-good limit s fresh = rw (fresh .none) (record {
   freshLeft = λ a b x. omega (arith, sides-none-left-all a b (s .fronts) (fresh .low a x));
   freshRight = λ a b x. omega (arith, sides-none-right-all a b (s .fronts) (fresh .low b x));
   quadsLow = λ i l. absurd (omega arith);
-  corners = λ i l. absurd (omega arith);
 })
 
 -- and what number 25 asks of counts and fronts, where there are no more loops than fronts may be
@@ -229,4 +227,4 @@ began-allowed n s few b =
     }
 
 pub sampled-stands : (j : Job) (s : State) → sampled j ≡ gives s → length (j .loops) ≤ loopLimit → Stands (s .fronts) s
-sampled-stands j s e few = let b = sampled-began j s e in record { good = fresh-good cornerLimit s (b .fresh); allowed = began-allowed (length (j .loops)) s few b }
+sampled-stands j s e few = let b = sampled-began j s e in record { good = fresh-good s (b .fresh); allowed = began-allowed (length (j .loops)) s few b }

@@ -1,9 +1,8 @@
--- The job, closing and fan calls. Definitions only. (The row call is `rowCall` of RowCall.antt.)
+-- The job, closing and fan calls, each with the corner limit of its own job. Definitions only. (The row call is `rowCall` of RowCall.antt.)
 use Rattle.state.specs.State.{State, Held, Lengths, lengths}
 use Rattle.state.specs.Outcome.{Outcome, refused, gives}
 use Rattle.state.specs.Call.{Left, onState}
 use Rattle.input.specs.Job.{Job, inputNumber}
-use Rattle.input.specs.Limit.{cornerLimit}
 use Rattle.sampling.specs.Sample.{sampled, onJob}
 use Rattle.rules.specs.Passes.{somePasses}
 use Rattle.rules.specs.Closing.{closings}
@@ -16,13 +15,13 @@ andThen (gives s) step = step s
 
 -- sampling, then the passes up to the limit, then the closings
 unfoldable pub paved : Job → Outcome State
-paved j = andThen (andThen (sampled j) (somePasses j (j .options .«max_row_rounds»))) (closings cornerLimit)
+paved j = andThen (andThen (sampled j) (somePasses j (j .options .«max_row_rounds»))) (closings (j .options .«corner_limit»))
 
 unfoldable pub jobCall : Job → Lengths → Left
 jobCall j l = onJob j l (paved j)
 
 unfoldable pub closeCall : Job → Held → Left
-closeCall j b = onState (inputNumber j (lengths b)) b (closings cornerLimit)
+closeCall j b = onState (inputNumber j (lengths b)) b (closings (j .options .«corner_limit»))
 
 unfoldable pub fanCall : Job → Held → Left
-fanCall j b = onState (inputNumber j (lengths b)) b (fan cornerLimit j)
+fanCall j b = onState (inputNumber j (lengths b)) b (fan (j .options .«corner_limit») j)

@@ -1,15 +1,15 @@
 -- The demands, over what the calls return. Statements only; proofs/Demands.antt proves them.
-use Prim.Native.Nat.{ℕ, _+_, _*_, _≤_, _<_}
+use Prim.Native.Nat.{ℕ, _+_, _-_, _*_, _≤_, _<_}
 use mathlib.Core.Path.{_≡_}
 use mathlib.Core.Bool.{true, false}
 use mathlib.Core.Logic.{_⊎_}
-use mathlib.Core.List.{List, [], _∷_}
-use lib.ListN.{length, getD, take}
+use mathlib.Core.List.{List, [], _∷_, _++_}
+use lib.ListN.{length, getD, take, replicate}
+use lib.Ieee.{Float}
 use Rattle.float.specs.Helpers.{decimal}
 use Rattle.state.specs.State.{State, Held, Lengths, quad, nodes, zeros, reading}
 use Rattle.state.specs.Coordinates.{wrongCoordinate}
 use Rattle.input.specs.Job.{Job}
-use Rattle.input.specs.Limit.{cornerLimit}
 use Rattle.state.specs.Outcome.{Outcome, refused, gives}
 use Rattle.sampling.specs.Sample.{sampled, sampleCall}
 use Rattle.rules.specs.Checks.{quadPasses}
@@ -65,19 +65,28 @@ unfoldable pub sampledLoops : Outcome State → List (List ℕ)
 sampledLoops (refused n) = []
 sampledLoops (gives s) = s .fronts
 
--- every quad passes the corner test on the points, and each pair of nodes counts 0 or 2 times
-pub record Tiled (loops : List (List ℕ)) (s : State) : Type 0 where
-  pub corners : (i : ℕ) → i < length (s .quads) → quadPasses cornerLimit (s .points) (getD (s .quads) i (quad 0 0 0 0)) ≡ true
+-- A corner limit for each quad: those of the quads that stood, and the call's own for each quad that it laid behind them, so that the buffers b hold as many.
+abbrev pub limitsAfter : List Float → Float → Held → List Float
+limitsAfter stood limit b = stood ++ replicate (b .counts .quads - length stood) limit
+
+-- every quad passes the corner test on the points, with the limit of the call that laid it, and each pair of nodes counts 0 or 2 times
+pub record Tiled (loops : List (List ℕ)) (limits : List Float) (s : State) : Type 0 where
+  pub each : length limits ≡ length (s .quads)
+  pub corners : (i : ℕ) → i < length (s .quads) → quadPasses (getD limits i (decimal 0 0)) (s .points) (getD (s .quads) i (quad 0 0 0 0)) ≡ true
   pub pairs : (a b : ℕ) → (pairCount loops s a b ≡ 0) ⊎ (pairCount loops s a b ≡ 2)
 
--- Any way of using the calls: an accepted job or an accepted sample, then rows, closings and fans of whatever jobs and front numbers, granted or refused,
--- each given back what the caller holds, counts and all. The loops are those of the job or sample that it began with.
-pub data Reached : List (List ℕ) → Held → Type 0 where
-  byJob : (j : Job) (l : Lengths) → numberOf (jobCall j l) ≡ 0 → Reached (sampledLoops (sampled j)) (jobCall j l .held)
-  bySample : (j : Job) (l : Lengths) → numberOf (sampleCall j l) ≡ 0 → Reached (sampledLoops (sampled j)) (sampleCall j l .held)
-  byRow : {loops : List (List ℕ)} {b : Held} (j : Job) (li : ℕ) → Reached loops b → Reached loops (rowCall j li b .held)
-  byClosing : {loops : List (List ℕ)} {b : Held} (j : Job) → Reached loops b → Reached loops (closeCall j b .held)
-  byFan : {loops : List (List ℕ)} {b : Held} (j : Job) → Reached loops b → Reached loops (fanCall j b .held)
+-- A row, closing or fan call, granted or refused: what the caller held, the corner limit of the call's job, and what the caller holds then.
+pub data Called : Held → Float → Held → Type 0 where
+  byRow : {b : Held} (j : Job) (li : ℕ) → Called b (j .options .«corner_limit») (rowCall j li b .held)
+  byClosing : {b : Held} (j : Job) → Called b (j .options .«corner_limit») (closeCall j b .held)
+  byFan : {b : Held} (j : Job) → Called b (j .options .«corner_limit») (fanCall j b .held)
+
+-- Any way of using the calls: an accepted job or an accepted sample, then rows, closings and fans of whatever jobs and front numbers, each given back what the
+-- caller holds, counts and all. The loops are those of the job or sample that it began with; the limits are those of the calls that laid the quads, one for each.
+pub data Reached : List (List ℕ) → List Float → Held → Type 0 where
+  byJob : (j : Job) (l : Lengths) → numberOf (jobCall j l) ≡ 0 → Reached (sampledLoops (sampled j)) (replicate (jobCall j l .held .counts .quads) (j .options .«corner_limit»)) (jobCall j l .held)
+  bySample : (j : Job) (l : Lengths) → numberOf (sampleCall j l) ≡ 0 → Reached (sampledLoops (sampled j)) [] (sampleCall j l .held)
+  byCall : {loops : List (List ℕ)} {limits : List Float} {b c : Held} {limit : Float} → Reached loops limits b → Called b limit c → Reached loops (limitsAfter limits limit c) c
 
 -- a row lays one quad and adds one point for each of the n nodes of the front that it replaces, and sets laid to the quads after it
 pub record OneForEach (n : ℕ) (s t : State) : Type 0 where
@@ -112,6 +121,7 @@ underLimit j n = record {
     «front_gap» = j .options .«front_gap»;
     «max_row_rounds» = n;
     seam = j .options .seam;
+    «corner_limit» = j .options .«corner_limit»;
   };
 }
 
@@ -127,14 +137,20 @@ pub record Demand3 : Type 0 where
   pub prefix :
       (j : Job) (l : Lengths) (p q : ℕ) → p ≤ q → numberOf (jobCall (underLimit j p) l) ≡ 0 → numberOf (jobCall (underLimit j q) l) ≡ 0
       → Begins (jobCall (underLimit j p) l .held) (jobCall (underLimit j q) l .held)
-  -- in each answer
-  pub answer : (j : Job) (l : Lengths) → numberOf (jobCall j l) ≡ 0 → Tiled (sampledLoops (sampled j)) (reading (jobCall j l .held))
-  -- after any fan of it, granted or refused
-  pub fan : (j k : Job) (l : Lengths) → numberOf (jobCall j l) ≡ 0 → Tiled (sampledLoops (sampled j)) (reading (fanCall k (jobCall j l .held) .held))
+  -- in each answer, every quad passing the job's limit
+  pub answer : (j : Job) (l : Lengths) → numberOf (jobCall j l) ≡ 0
+      → Tiled (sampledLoops (sampled j)) (replicate (jobCall j l .held .counts .quads) (j .options .«corner_limit»)) (reading (jobCall j l .held))
+  -- after any fan of it, granted or refused, the job's quads passing the job's limit and the fan's quads the fan's
+  pub fan : (j k : Job) (l : Lengths) → numberOf (jobCall j l) ≡ 0
+      → Tiled (sampledLoops (sampled j)) (limitsAfter (replicate (jobCall j l .held .counts .quads) (j .options .«corner_limit»)) (k .options .«corner_limit») (fanCall k (jobCall j l .held) .held))
+      (reading (fanCall k (jobCall j l .held) .held))
   -- and after any rows, closings and fans, of an accepted sample too
-  pub anyUse : {loops : List (List ℕ)} {b : Held} → Reached loops b → Tiled loops (reading b)
+  pub anyUse : {loops : List (List ℕ)} {limits : List Float} {b : Held} → Reached loops limits b → Tiled loops limits (reading b)
+  -- a call lays its quads behind those that stood, so each quad's limit stays at its place
+  pub behind : {loops : List (List ℕ)} {limits : List Float} {b c : Held} {limit : Float} → Reached loops limits b → Called b limit c
+      → take (length (reading b .quads)) (reading c .quads) ≡ reading b .quads
   -- what the calls left is taken back: number 25 finds nothing in it, unless a coordinate
-  pub takenBack : {loops : List (List ℕ)} {b : Held} → Reached loops b → wrongState b ≡ wrongCoordinate (decimal 1000000000 0) (reading b .points)
+  pub takenBack : {loops : List (List ℕ)} {limits : List Float} {b : Held} → Reached loops limits b → wrongState b ≡ wrongCoordinate (decimal 1000000000 0) (reading b .points)
   -- what `job` left, given back to a row, closing or fan call, is never refused with 25
   pub acceptedBack : (j : Job) (l : Lengths) → numberOf (jobCall j l) ≡ 0 → wrongState (jobCall j l .held) ≡ false
   -- the quads laid by rows: those of a row, and those of an accepted job

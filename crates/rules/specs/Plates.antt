@@ -18,7 +18,7 @@ use Rattle.state.specs.Coordinates.{wrongCoordinate}
 use Rattle.state.specs.Given.{some, member, repeated, wrongCounts, wrongValues, wrongState}
 use Rattle.state.specs.Call.{Left, numberOf, lengthsOf, jobLeft, stateLeft, onState}
 use Rattle.input.specs.Job.{Job, job, wrongLengths, wrongShape, wrongSize, wrongOptions, inputNumber}
-use Rattle.input.specs.Limit.{cornerLimit}
+use Rattle.input.specs.Limit.{defaultLimit}
 use Rattle.input.specs.Defaults.{defaults}
 use Rattle.planning.specs.Ring.{close, kept, unclosed, turned, loopRing}
 use Rattle.planning.specs.Plan.{margin, span, inner, innerSum, longest, total, planned, parts}
@@ -175,5 +175,5 @@ all-agree [] = true
 all-agree (w ∷ ws) = sameList (w .computed) (w .stated) && all-agree ws
 
 plates-agree : all-agree rows ≡ true
-unfolding all-agree sameList bits counted nonzero behind everything secondNode toBits ofBits ofInt add sub mul div round neg lt le isNan size absolute lesser greater isFinite roundAway clampUnit root sideLength areaSum signedArea sharpAt lengthSum frontLength quadArea cornerValue cornerPasses cornersPass leastCorner rings sumOf holesArea domainArea joined firstOf wrongLengths wrongShape wrongSize wrongOptions wrongCoordinate inputNumber cornerLimit some member repeated wrongCounts wrongValues wrongState quadsOf cut reading written jobLeft stateLeft onState close kept unclosed turned loopRing margin span inner innerSum longest total planned parts innerPoint innerPoints placedOn placed sampleLoop numbered withLoop sampleFrom sampled onJob sampleCall project every quadPasses newPoints rowQuads restStands rowStands rowNumber committed nextRow inserted ordered passOrder rowsInOrder onePass somePasses turnedQuad leastOf closeFour firstHalf secondHalf bestSplit closure keptFronts closed closings andThen paved jobCall closeCall
+unfolding all-agree sameList bits counted nonzero behind everything secondNode toBits ofBits ofInt add sub mul div round neg lt le isNan size absolute lesser greater isFinite roundAway clampUnit root sideLength areaSum signedArea sharpAt lengthSum frontLength quadArea cornerValue cornerPasses cornersPass leastCorner rings sumOf holesArea domainArea joined firstOf wrongLengths wrongShape wrongSize wrongOptions wrongCoordinate inputNumber defaultLimit some member repeated wrongCounts wrongValues wrongState quadsOf cut reading written jobLeft stateLeft onState close kept unclosed turned loopRing margin span inner innerSum longest total planned parts innerPoint innerPoints placedOn placed sampleLoop numbered withLoop sampleFrom sampled onJob sampleCall project every quadPasses newPoints rowQuads restStands rowStands rowNumber committed nextRow inserted ordered passOrder rowsInOrder onePass somePasses turnedQuad leastOf closeFour firstHalf secondHalf bestSplit closure keptFronts closed closings andThen paved jobCall closeCall
 plates-agree = refl

@@ -13,7 +13,6 @@ use Rattle.state.specs.Limits.{pointLimit, quadLimit}
 use Rattle.state.specs.State.{State, nodes, numbered}
 use Rattle.state.specs.Outcome.{Outcome, firstOf, test, outcome}
 use Rattle.input.specs.Job.{Job}
-use Rattle.input.specs.Limit.{cornerLimit}
 use Rattle.rules.specs.Simple.{isSimple}
 use Rattle.rules.specs.Checks.{newPoints, allProject, allInside, allOffBoundary, allLongEnough, allClearOfFronts, newQuads, allCornersPass}
 
@@ -27,7 +26,7 @@ restStands j pts fronts li row =
     let old = getD fronts li [] in
     let n = length old in
     allInside outline row n && allOffBoundary outline (decimal 5 2 ⊗ j .h) row n && allLongEnough (j .options .«min_edge_fraction» ⊗ j .h) row n
-    && allClearOfFronts pts fronts li (j .options .«front_gap» ⊗ j .h) row n && isSimple (ringOf row n) && allCornersPass cornerLimit pts old row
+    && allClearOfFronts pts fronts li (j .options .«front_gap» ⊗ j .h) row n && isSimple (ringOf row n) && allCornersPass (j .options .«corner_limit») pts old row
 
 -- the new points of front li
 abbrev pub newOf : Job → List Float → List (List ℕ) → ℕ → List Float

@@ -90,7 +90,8 @@ pub fn segments_cross(a: Point, b: Point, c: Point, d: Point) -> bool {
     unsafe { calls::pave_segments_cross(a[0], a[1], b[0], b[1], c[0], c[1], d[0], d[1]) }
 }
 
-/// The corner test of the quad a b c d: every corner value is finite and above 0.08715574274765817, the sine of 5 degrees.
+/// The corner test of the quad a b c d with the default limit: every corner value is finite and above
+/// [`Options::CORNER_LIMIT`](crate::Options::CORNER_LIMIT), the sine of 5 degrees.
 ///
 /// ```
 /// use paving::geometry::corners_pass;

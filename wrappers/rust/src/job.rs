@@ -8,6 +8,7 @@
 /// let defaults = Options::default();
 /// assert_eq!((defaults.corner_margin, defaults.min_edge_fraction, defaults.front_gap), (2.4, 0.08, 1.2));
 /// assert_eq!((defaults.max_row_rounds, defaults.seam), (32, false));
+/// assert_eq!(defaults.corner_limit, 0.08715574274765817);
 /// let two_passes = Options { max_row_rounds: 2, ..defaults };
 /// # assert_eq!(two_passes.max_row_rounds, 2);
 /// ```
@@ -23,6 +24,9 @@ pub struct Options {
     pub max_row_rounds: u64,
     /// Not offered: true is refused.
     pub seam: bool,
+    /// What every corner value of a quad has to be above: 0.02 to 0.9. Every row, closing and fan tests its own quads with the
+    /// limit of its own call; two calls on one paving may have two limits.
+    pub corner_limit: f64,
 }
 
 impl Options {
@@ -30,6 +34,8 @@ impl Options {
     pub const MIN_EDGE_FRACTION: f64 = 0.08;
     pub const FRONT_GAP: f64 = 1.2;
     pub const MAX_ROW_ROUNDS: u64 = 32;
+    /// The sine of 5 degrees.
+    pub const CORNER_LIMIT: f64 = 0.08715574274765817;
 }
 
 impl Default for Options {
@@ -40,6 +46,7 @@ impl Default for Options {
             front_gap: Options::FRONT_GAP,
             max_row_rounds: Options::MAX_ROW_ROUNDS,
             seam: false,
+            corner_limit: Options::CORNER_LIMIT,
         }
     }
 }

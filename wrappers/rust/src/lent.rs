@@ -109,6 +109,7 @@ macro_rules! call {
                 $job.loop_lengths.as_ptr(), $job.loop_lengths.len(),
                 $job.h,
                 options.corner_margin, options.min_edge_fraction, options.front_gap, options.max_row_rounds, options.seam,
+                options.corner_limit,
                 $($front,)?
                 $lent.points.as_mut_ptr(), $lent.points.len(),
                 $lent.quads.as_mut_ptr(), $lent.quads.len(),

@@ -85,6 +85,7 @@ impl Body {
                     front_gap: f(2),
                     max_row_rounds: rest[3].parse().expect(line),
                     seam: rest[4].parse().expect(line),
+                    corner_limit: rest.get(5).map_or(Options::CORNER_LIMIT, |x| x.parse().expect(line)),
                 }
             }
             "outer" | "hole" => self.loop_lengths.push(0),

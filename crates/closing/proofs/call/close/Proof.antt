@@ -1,6 +1,7 @@
 -- `closing::call::close` meets its contract.
 use mathlib.Core.Path.{_≡_, sym, _∙_}
 use mathlib.Core.Bool.{true≢false}
+use lib.Ieee.{Float}
 use Rattle.state.specs.Limits.{frontLimit, frontNodeLimit, pointsLength, quadsLength}
 use Rattle.state.specs.State.{Held, lengths, reading}
 use Rattle.state.specs.Call.{Left, held, lengthsOf, stateLeft, onState}
@@ -8,7 +9,6 @@ use Rattle.state.specs.Sound.{Sound}
 use Rattle.state.proofs.Sounding as sounding
 use Rattle.state.proofs.Calling.{input-refuses, state-refuses, state-stands}
 use Rattle.input.specs.Job.{Job, job, inputNumber}
-use Rattle.input.specs.Limit.{cornerLimit}
 use Rattle.input.proofs.Shape.{right-lengths}
 use Rattle.rules.specs.Closing.{closings}
 use Rattle.rules.specs.Calls.{closeCall}
@@ -22,6 +22,9 @@ given s = held (s .args .points .now) (s .args .quads .now) (s .args .front-node
 
 abbrev jobAt : tie.Start → Job
 jobAt s = job (s .args .coords .now) (s .args .loop-lengths .now) (s .args .h) (s .args .options)
+
+abbrev limitAt : tie.Start → Float
+limitAt s = s .args .options .«corner_limit»
 
 abbrev start : tie.After-input-number → tie.Start
 start c = search
@@ -50,11 +53,11 @@ sound-at c =
     let at-wrong-state : tie.After-wrong-state = search in
     sounding.sound (given (entered c)) (right (else1 c)) (sym (at-wrong-state .wrong-state .ensures) ∙ c .if2 .left)
 
-stood : (c : tie.Else2) (a : Left) → a ≡ stateLeft (given (entered c)) (closings cornerLimit (reading (given (entered c))))
-    → a ≡ onState (inputNumber (jobAt (entered c)) (lengths (given (entered c)))) (given (entered c)) (closings cornerLimit)
+stood : (c : tie.Else2) (a : Left) → a ≡ stateLeft (given (entered c)) (closings (limitAt (entered c)) (reading (given (entered c))))
+    → a ≡ onState (inputNumber (jobAt (entered c)) (lengths (given (entered c)))) (given (entered c)) (closings (limitAt (entered c)))
 stood c a e =
     let at-wrong-state : tie.After-wrong-state = search in
-    rw (← number (input-at (else1 c))) (state-stands (given (entered c)) (closings cornerLimit) _ (else1 c .if1 .left) _ (at-wrong-state .wrong-state .ensures) (c .if2 .left) a e)
+    rw (← number (input-at (else1 c))) (state-stands (given (entered c)) (closings (limitAt (entered c))) _ (else1 c .if1 .left) _ (at-wrong-state .wrong-state .ensures) (c .if2 .left) a e)
 
 input-number-requires : tie.Need-input-number-requires
 input-number-requires c κs = search needs
@@ -63,7 +66,7 @@ returns : tie.Need-returns
 unfolding closeCall
 returns c =
     let at-input-number : tie.After-input-number = search in
-    rw (← number at-input-number) (input-refuses (given (start at-input-number)) (closings cornerLimit) _ (c .if1 .taken))
+    rw (← number at-input-number) (input-refuses (given (start at-input-number)) (closings (limitAt (start at-input-number))) _ (c .if1 .taken))
 
 wrong-state-requires : tie.Need-wrong-state-requires
 wrong-state-requires c κs =
@@ -88,10 +91,7 @@ returns-2 c =
     let at-wrong-state : tie.After-wrong-state = search in
     let at-if1 : tie.Else1 = search in
     let at-input-number = input-at at-if1 in
-    rw (← number at-input-number) (state-refuses (given (start at-input-number)) (closings cornerLimit) _ (at-if1 .if1 .left) _ (at-wrong-state .wrong-state .ensures) (c .if2 .taken))
-
-corner-limit-requires : tie.Need-corner-limit-requires
-corner-limit-requires c κs = search needs
+    rw (← number at-input-number) (state-refuses (given (start at-input-number)) (closings (limitAt (start at-input-number))) _ (at-if1 .if1 .left) _ (at-wrong-state .wrong-state .ensures) (c .if2 .taken))
 
 close-small-fronts-requires : tie.Need-close-small-fronts-requires
 close-small-fronts-requires c κs =
@@ -114,9 +114,8 @@ returns-3 : tie.Need-returns-3
 unfolding closeCall
 returns-3 c =
     let at-close : tie.After-close-small-fronts = search in
-    let at-limit : tie.After-corner-limit = search in
     let at-if2 : tie.Else2 = search in
-    stood at-if2 _ (rw (at-limit .corner-limit .ensures) at (at-close .close-small-fronts .ensures))
+    stood at-if2 _ (at-close .close-small-fronts .ensures)
 
 pub close-spec : {M : Type 1} → statement M
 close-spec =
@@ -130,7 +129,6 @@ close-spec =
     same-length-3
     same-length-4
     returns-2
-    corner-limit-requires
     close-small-fronts-requires
     same-length-5
     same-length-6

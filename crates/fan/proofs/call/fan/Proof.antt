@@ -7,7 +7,6 @@ use Rattle.state.specs.Call.{held, lengthsOf}
 use Rattle.state.proofs.Sounding.{sound}
 use Rattle.state.proofs.Calling.{input-refuses, state-refuses, state-stands}
 use Rattle.input.specs.Job.{Job, job, inputNumber}
-use Rattle.input.specs.Limit.{cornerLimit}
 use Rattle.input.proofs.Shape.{right-lengths, outline-read}
 use Rattle.rules.specs.Fan.{fan as fanOf}
 use Rattle.rules.specs.Calls.{fanCall}
@@ -44,7 +43,7 @@ unfolding fanCall
 returns c =
     let at-input-number : tie.After-input-number = search in
     let entry = start at-input-number in
-    rw (← number at-input-number) (input-refuses (given entry) (fanOf cornerLimit (jobAt entry)) _ (c .if1 .taken))
+    rw (← number at-input-number) (input-refuses (given entry) (fanOf (entry .args .options .«corner_limit») (jobAt entry)) _ (c .if1 .taken))
 
 wrong-state-requires : tie.Need-wrong-state-requires
 wrong-state-requires c κs =
@@ -70,10 +69,7 @@ returns-2 c =
     let at-if1 : tie.Else1 = search in
     let at-input-number : tie.After-input-number = search in
     let entry = start at-input-number in
-    rw (← number at-input-number) (state-refuses (given entry) (fanOf cornerLimit (jobAt entry)) _ (at-if1 .if1 .left) _ (at-wrong-state .wrong-state .ensures) (c .if2 .taken))
-
-corner-limit-requires : tie.Need-corner-limit-requires
-corner-limit-requires c κs = search needs
+    rw (← number at-input-number) (state-refuses (given entry) (fanOf (entry .args .options .«corner_limit») (jobAt entry)) _ (at-if1 .if1 .left) _ (at-wrong-state .wrong-state .ensures) (c .if2 .taken))
 
 fan-fill-requires : tie.Need-fan-fill-requires
 fan-fill-requires c κs =
@@ -103,15 +99,14 @@ returns-3 : tie.Need-returns-3
 unfolding fanCall
 returns-3 c =
     let at-fan-fill : tie.After-fan-fill = search in
-    let at-corner-limit : tie.After-corner-limit = search in
     let at-if2 : tie.Else2 = search in
     let at-wrong-state : tie.After-wrong-state = search in
     let at-if1 : tie.Else1 = search in
     let at-input-number : tie.After-input-number = search in
     let entry = start at-input-number in
     rw (← number at-input-number)
-    (state-stands (given entry) (fanOf cornerLimit (jobAt entry)) _ (at-if1 .if1 .left) _ (at-wrong-state .wrong-state .ensures) (at-if2 .if2 .left) _
-    (rw (at-corner-limit .corner-limit .ensures) at (at-fan-fill .fan-fill .ensures (entry .args .h) (entry .args .options))))
+    (state-stands (given entry) (fanOf (entry .args .options .«corner_limit») (jobAt entry)) _ (at-if1 .if1 .left) _ (at-wrong-state .wrong-state .ensures) (at-if2 .if2 .left) _
+    (at-fan-fill .fan-fill .ensures (entry .args .h) (entry .args .options)))
 
 pub fan-spec : {M : Type 1} → statement M
 fan-spec =
@@ -125,7 +120,6 @@ fan-spec =
     same-length-3
     same-length-4
     returns-2
-    corner-limit-requires
     fan-fill-requires
     same-length-5
     same-length-6

@@ -3,7 +3,6 @@ use mathlib.Core.Path.{_≡_, sym, _∙_, ap}
 use lib.ListN.{length}
 use Rattle.state.specs.State.{Held, Lengths, reading, noCounts}
 use Rattle.state.specs.Call.{held, left, lengthsOf, jobLeft}
-use Rattle.input.specs.Limit.{cornerLimit}
 use Rattle.input.specs.Job.{Job, job}
 use Rattle.sampling.proofs.Calling.{same-lengths}
 use Rattle.rules.specs.Passes.{somePasses}
@@ -103,7 +102,7 @@ returns-2 c =
     let kept = sampled-at at-start .sample .kept .1 .1 .1 .1 in
     let same = same-lengths _ _ _ _ (length (start .args .points .now)) (length (start .args .quads .now)) (length (start .args .front-nodes .now)) (length (start .args .front-lengths .now)) (kept .0) (kept .1 .0) (kept .1 .1 .0) (kept .1 .1 .1 .0) in
     at-pave .pave .ensures
-    ∙ ap (λ l. jobLeft l (andThen (somePasses (jobAt start) (start .args .options .«max_row_rounds») (reading (heldThen at-start))) (closings cornerLimit))) same
+    ∙ ap (λ l. jobLeft l (andThen (somePasses (jobAt start) (start .args .options .«max_row_rounds») (reading (heldThen at-start))) (closings (start .args .options .«corner_limit»)))) same
     ∙ sym (onward (jobAt start) (lengthsAt start) (heldThen at-start) (start-of at-start))
 
 pub job-spec : {M : Type 1} → statement M

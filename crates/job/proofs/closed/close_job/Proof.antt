@@ -16,9 +16,6 @@ given s = held (s .args .points .now) (s .args .quads .now) (s .args .front-node
 abbrev lengthsAt : tie.Start → Lengths
 lengthsAt s = lengthsOf (length (s .args .points .now)) (length (s .args .quads .now)) (length (s .args .front-nodes .now)) (length (s .args .front-lengths .now))
 
-corner-limit-requires : tie.Need-corner-limit-requires
-corner-limit-requires c κs = search needs
-
 close-small-fronts-requires : tie.Need-close-small-fronts-requires
 close-small-fronts-requires c κs = search needs
 
@@ -48,11 +45,10 @@ returns c =
     let at-clear-all : tie.After-clear-all = search in
     let at-n : tie.After-n = search in
     let at-close-small-fronts : tie.After-close-small-fronts = search in
-    let at-corner-limit : tie.After-corner-limit = search in
     let start : tie.Start = search in
     let closed = at-close-small-fronts .close-small-fronts in
     cleared (lengthsAt start) _ _
-    (state-refused (given start) _ _ _ (rw (at-n .n .given .1, at-corner-limit .corner-limit .ensures) at (closed .ensures))) _
+    (state-refused (given start) _ _ _ (rw (at-n .n .given .1) at (closed .ensures))) _
     (at-clear-all .clear-all .ensures
     ∙ ap zeros (same-lengths _ _ _ _ (length (start .args .points .now)) (length (start .args .quads .now)) (length (start .args .front-nodes .now)) (length (start .args .front-lengths .now)) (closed .kept .0) (closed .kept .1 .0) (closed .kept .1 .1 .0) (closed .kept .1 .1 .1 .0)))
 
@@ -72,17 +68,15 @@ returns-2 : tie.Need-returns-2
 returns-2 c =
     let at-c : tie.After-c = search in
     let at-close-small-fronts : tie.After-close-small-fronts = search in
-    let at-corner-limit : tie.After-corner-limit = search in
     let start : tie.Start = search in
     let closed = at-close-small-fronts .close-small-fronts in
     state-done (given start) _ (lengthsAt start) _ (held (closed .last .0) (closed .last .1 .0) (closed .last .1 .1 .0) (closed .last .1 .1 .1 .0) (start .args .counts))
-    (rw (at-c .c .given .1, at-corner-limit .corner-limit .ensures) at (closed .ensures))
+    (rw (at-c .c .given .1) at (closed .ensures))
 
 pub close-job-spec : {M : Type 1} → statement M
 close-job-spec =
     tie.close
     (tie.spec
-    corner-limit-requires
     close-small-fronts-requires
     enum-known-n
     clear-all-requires

@@ -5,7 +5,6 @@ use Rattle.state.specs.State.{State, Held, Lengths, zeros, reading}
 use Rattle.state.specs.Outcome.{Outcome, gives}
 use Rattle.state.specs.Call.{held, lengthsOf, jobLeft}
 use Rattle.state.specs.Sound.{Sound, Clean}
-use Rattle.input.specs.Limit.{cornerLimit}
 use Rattle.input.specs.Job.{Job, job}
 use Rattle.sampling.proofs.Calling.{same-lengths}
 use Rattle.rules.specs.Passes.{somePasses}
@@ -94,7 +93,7 @@ returns c =
     let ran = at-some-passes .some-passes in
     let kept = ran .kept .1 .1 .1 .1 .1 in
     let r = passes-refused (jobAt start) (start .args .options .«max_row_rounds») (given start) (start .pre .0) (leftBy at-some-passes) _ (rw (at-n .n .given .1) at (ran .ensures)) in
-    cleared (lengthsAt start) _ _ (refused-first (rows start) (closings cornerLimit) _ r) _
+    cleared (lengthsAt start) _ _ (refused-first (rows start) (closings (start .args .options .«corner_limit»)) _ r) _
     (at-clear-all .clear-all .ensures
     ∙ ap zeros (same-lengths _ _ _ _ (length (start .args .points .now)) (length (start .args .quads .now)) (length (start .args .front-nodes .now)) (length (start .args .front-lengths .now)) (kept .0) (kept .1 .0) (kept .1 .1 .0) (kept .1 .1 .1 .0)))
 
@@ -118,8 +117,8 @@ returns-2 c =
     let kept = passed-at at-laid .some-passes .kept .1 .1 .1 .1 .1 in
     let same = same-lengths _ _ _ _ (length (start .args .points .now)) (length (start .args .quads .now)) (length (start .args .front-nodes .now)) (length (start .args .front-lengths .now)) (kept .0) (kept .1 .0) (kept .1 .1 .0) (kept .1 .1 .1 .0) in
     at-close-job .close-job .ensures
-    ∙ ap (λ l. jobLeft l (closings cornerLimit (reading (heldThen at-laid)))) same
-    ∙ ap (jobLeft (lengthsAt start)) (given-first (rows start) (closings cornerLimit) _ (done at-laid .2))
+    ∙ ap (λ l. jobLeft l (closings (start .args .options .«corner_limit») (reading (heldThen at-laid)))) same
+    ∙ ap (jobLeft (lengthsAt start)) (given-first (rows start) (closings (start .args .options .«corner_limit»)) _ (done at-laid .2))
 
 pub pave-spec : {M : Type 1} → statement M
 pave-spec =

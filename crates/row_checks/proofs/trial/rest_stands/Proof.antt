@@ -59,9 +59,6 @@ nodes-of-requires c κs =
     let entry : tie.Start = search in
     let p = entry .pre in let w = total-within (entry .args .lengths .now) (entry .args .li) (p .0 .0) in omega arith
 
-corner-limit-requires : tie.Need-corner-limit-requires
-corner-limit-requires c κs = search needs
-
 all-quads-stand-requires : tie.Need-all-quads-stand-requires
 all-quads-stand-requires c κs =
     let entry : tie.Start = search in
@@ -74,7 +71,6 @@ all-quads-stand-requires c κs =
 
 returns-3 : tie.Need-returns-3
 returns-3 c =
-    let at-corner-limit : tie.After-corner-limit = search in
     let at-nodes-of : tie.After-nodes-of = search in
     let at-if2 : tie.Else2 = search in
     let at-all-off-boundary : tie.After-all-off-boundary = search in
@@ -83,7 +79,7 @@ returns-3 c =
     let entry = start at-all-inside in
     let a = entry .args in
     let e = old-is entry _ (at-nodes-of .nodes-of .ensures) in
-    one-quad-fails (jobAt entry) (a .points .now) (frontsAt entry) (a .li) (a .row .now) (a .front .len) (sized entry) (entry .pre .1 .0 .2) (below entry) _ (at-all-inside .all-inside .ensures) (not-false _ (at-if1 .if1 .left)) _ (rw twentieth-is at (at-all-off-boundary .all-off-boundary .ensures)) (not-false _ (at-if2 .if2 .left)) _ e _ (rw (at-corner-limit .corner-limit .ensures) at (c .before .all-quads-stand .ensures)) (not-true _ (c .if3 .taken))
+    one-quad-fails (jobAt entry) (a .points .now) (frontsAt entry) (a .li) (a .row .now) (a .front .len) (sized entry) (entry .pre .1 .0 .2) (below entry) _ (at-all-inside .all-inside .ensures) (not-false _ (at-if1 .if1 .left)) _ (rw twentieth-is at (at-all-off-boundary .all-off-boundary .ensures)) (not-false _ (at-if2 .if2 .left)) _ e _ (c .before .all-quads-stand .ensures) (not-true _ (c .if3 .taken))
 
 clear-of-fronts-requires : tie.Need-clear-of-fronts-requires
 clear-of-fronts-requires c κs = search needs
@@ -92,7 +88,6 @@ returns-4 : tie.Need-returns-4
 returns-4 c =
     let at-if3 : tie.Else3 = search in
     let at-all-quads-stand : tie.After-all-quads-stand = search in
-    let at-corner-limit : tie.After-corner-limit = search in
     let at-nodes-of : tie.After-nodes-of = search in
     let at-if2 : tie.Else2 = search in
     let at-all-off-boundary : tie.After-all-off-boundary = search in
@@ -101,7 +96,7 @@ returns-4 c =
     let entry = start at-all-inside in
     let a = entry .args in
     let e = old-is entry _ (at-nodes-of .nodes-of .ensures) in
-    one-near (jobAt entry) (a .points .now) (frontsAt entry) (a .li) (a .row .now) (a .front .len) (sized entry) (entry .pre .1 .0 .2) (below entry) _ (at-all-inside .all-inside .ensures) (not-false _ (at-if1 .if1 .left)) _ (rw twentieth-is at (at-all-off-boundary .all-off-boundary .ensures)) (not-false _ (at-if2 .if2 .left)) _ e _ (rw (at-corner-limit .corner-limit .ensures) at (at-all-quads-stand .all-quads-stand .ensures)) (not-false _ (at-if3 .if3 .left)) _ (c .before .clear-of-fronts .ensures) (not-true _ (c .if4 .taken))
+    one-near (jobAt entry) (a .points .now) (frontsAt entry) (a .li) (a .row .now) (a .front .len) (sized entry) (entry .pre .1 .0 .2) (below entry) _ (at-all-inside .all-inside .ensures) (not-false _ (at-if1 .if1 .left)) _ (rw twentieth-is at (at-all-off-boundary .all-off-boundary .ensures)) (not-false _ (at-if2 .if2 .left)) _ e _ (at-all-quads-stand .all-quads-stand .ensures) (not-false _ (at-if3 .if3 .left)) _ (c .before .clear-of-fronts .ensures) (not-true _ (c .if4 .taken))
 
 is-simple-requires : tie.Need-is-simple-requires
 is-simple-requires c κs =
@@ -112,7 +107,6 @@ returns-5 : tie.Need-returns-5
 returns-5 c =
     let at-if3 : tie.Else3 = search in
     let at-all-quads-stand : tie.After-all-quads-stand = search in
-    let at-corner-limit : tie.After-corner-limit = search in
     let at-nodes-of : tie.After-nodes-of = search in
     let at-if2 : tie.Else2 = search in
     let at-all-off-boundary : tie.After-all-off-boundary = search in
@@ -121,7 +115,7 @@ returns-5 c =
     let entry = start at-all-inside in
     let a = entry .args in
     let e = old-is entry _ (at-nodes-of .nodes-of .ensures) in
-    crossing-decides (jobAt entry) (a .points .now) (frontsAt entry) (a .li) (a .row .now) (a .front .len) (sized entry) (entry .pre .1 .0 .2) (below entry) _ (at-all-inside .all-inside .ensures) (not-false _ (at-if1 .if1 .left)) _ (rw twentieth-is at (at-all-off-boundary .all-off-boundary .ensures)) (not-false _ (at-if2 .if2 .left)) _ e _ (rw (at-corner-limit .corner-limit .ensures) at (at-all-quads-stand .all-quads-stand .ensures)) (not-false _ (at-if3 .if3 .left)) _ (c .before .before .clear-of-fronts .ensures) (not-false _ (c .before .if4 .left)) _ (c .is-simple .ensures)
+    crossing-decides (jobAt entry) (a .points .now) (frontsAt entry) (a .li) (a .row .now) (a .front .len) (sized entry) (entry .pre .1 .0 .2) (below entry) _ (at-all-inside .all-inside .ensures) (not-false _ (at-if1 .if1 .left)) _ (rw twentieth-is at (at-all-off-boundary .all-off-boundary .ensures)) (not-false _ (at-if2 .if2 .left)) _ e _ (at-all-quads-stand .all-quads-stand .ensures) (not-false _ (at-if3 .if3 .left)) _ (c .before .before .clear-of-fronts .ensures) (not-false _ (c .before .if4 .left)) _ (c .is-simple .ensures)
 
 pub rest-stands-spec : {M : Type 1} → statement M
 rest-stands-spec =
@@ -132,7 +126,6 @@ rest-stands-spec =
     all-off-boundary-requires
     returns-2
     nodes-of-requires
-    corner-limit-requires
     all-quads-stand-requires
     returns-3
     clear-of-fronts-requires
