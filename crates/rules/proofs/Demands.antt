@@ -33,7 +33,8 @@ use Rattle.rules.proofs.PassGood.{Advances, row-one-each, passes-prefix
 use Rattle.rules.proofs.SampleSizes.{all-right, limited, sampled-all}
 use Rattle.rules.proofs.PassSizes.{passes-all}
 use Rattle.rules.proofs.Limits.{sampled-same, passes-same}
-use Rattle.rules.proofs.Answers.{Made, job-accepted, paved-made, closings-give, rows-stand, read-back, call-follows, reached-holds}
+use Rattle.rules.proofs.Answers.{Made, job-accepted, paved-made, closings-give, rows-stand}
+use Rattle.rules.proofs.Uses.{read-back, call-follows, reached-holds}
 
 -- ---- any use of the calls
 

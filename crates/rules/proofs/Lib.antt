@@ -19,4 +19,5 @@ pub mod Numbers
 pub mod Limits
 pub mod Refusals
 pub mod Answers
+pub mod Uses
 pub mod Demands

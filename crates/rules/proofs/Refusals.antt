@@ -14,7 +14,6 @@ use Rattle.state.specs.Given.{member, wrongState}
 use Rattle.state.specs.Call.{jobLeft, stateLeft, onState}
 use Rattle.rules.specs.RowCall.{rowAt, rowCall}
 use Rattle.rules.specs.Passes.{somePasses}
-use Rattle.rules.specs.Closing.{closings}
 use Rattle.rules.specs.Fan.{fan}
 use Rattle.rules.specs.Calls.{andThen, paved, jobCall, closeCall, fanCall}
 use Rattle.rules.specs.Demands.{jobNumbers, sampleNumbers, rowNumbers, closeNumbers, fanNumbers, Listed, Demand1}

@@ -14,7 +14,7 @@ use Rattle.rules.proofs.Lists.{all-append, below-or-from, twice}
 use Rattle.pairs.proofs.Occurs.{occurs, occursInAll, occurs-none, occurs-set, occurs-le, numbered-before, numbered-beyond, numbered-once}
 use Rattle.state.proofs.Growing.{length-numbered}
 use Rattle.pairs.proofs.Sides.{next-below, sides-none-left, sides-none-right, sides-once, sides-set, sides-none-left-all, sides-none-right-all}
-use Rattle.rules.proofs.RowSides.{row-length, row-sides, rungs, rungs-old, rungs-new, rungs-none-left, rungs-none-right, rungs-once}
+use Rattle.rules.proofs.RowSides.{row-sides, rungs, rungs-old, rungs-new, rungs-none-left, rungs-none-right, rungs-once}
 use Rattle.rules.proofs.Invariant.{Good, Below, noQuad, laidCount, laid-append}
 
 -- the list is not empty, so its place is in the list of lists

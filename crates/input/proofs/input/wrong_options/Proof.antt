@@ -1,7 +1,6 @@
 -- `input::input::wrong_options` meets its contract: its tests are the definition's, in its order.
 use mathlib.Core.Path.{_≡_, _∙_, sym}
 use mathlib.Core.Bool.{false}
-use lib.Dec.{ltb}
 use borrow.Author.Tests.{lt-ltb, le-ltb}
 use Rattle.float.specs.Helpers.{decimal}
 use Rattle.state.specs.Coordinates.{outside}
