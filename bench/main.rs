@@ -1,4 +1,4 @@
-//! bench root | geometry | sample | rows | closings | fan | job | text
+//! bench root | geometry | sample | rows | closings | fan | job | text | recheck
 
 mod clock;
 mod fronts;
@@ -7,6 +7,7 @@ mod job;
 #[allow(dead_code)]
 #[path = "../oracle/port/port.rs"]
 mod port;
+mod recheck;
 mod root;
 mod rows;
 mod sample;
@@ -29,8 +30,9 @@ fn main() {
         Some("fan") => fronts::fan(),
         Some("job") => job::run(),
         Some("text") => text::run(),
+        Some("recheck") => recheck::run(),
         _ => {
-            eprintln!("bench root|geometry|sample|rows|closings|fan|job|text");
+            eprintln!("bench root|geometry|sample|rows|closings|fan|job|text|recheck");
             std::process::exit(2)
         }
     }

@@ -133,8 +133,15 @@ enum {
          * twice in fronts, a coordinate not finite or over 1,000,000,000, or counts that do not agree. */
     PAVE_FAN_CENTRE = 26,
         /* Fan: no point of the search is inside both the front and the plate. */
-    PAVE_FAN_CORNER = 27
+    PAVE_FAN_CORNER = 27,
         /* Fan: a quad of the fan fails the corner test. */
+    /* a tile list's text; only the program recheck and pave_recheck answer these */
+    PAVE_LIST = 30,
+        /* The text is not a tile list. */
+    PAVE_PAIR = 31,
+        /* A pair of nodes is counted neither never nor twice. */
+    PAVE_LIST_CORNER = 32
+        /* A quad fails the corner test. */
 };
 
 /* ---- The calls on a job ---- */

@@ -10,6 +10,7 @@
 //!                                answers demand 3: a tenth as many pairs of pass limits, with pair counts and corners
 //! compare demands SEED COUNT     the last part of this alone: demand 3 under COUNT pairs of pass limits
 //! compare text SEED COUNT        COUNT texts, written and damaged
+//! compare lists SEED COUNT       COUNT tile lists to be read back, written and damaged
 //! compare all SEED HOURS         all kinds in turn, a new seed each round, for so many hours (0.1 are six minutes) or until something
 //!                                differs; then the input is made smaller and printed. The last line says the seed to go on with
 //! compare request                a request of the oracle's driver from standard input, port and Rust
@@ -25,6 +26,7 @@
 
 mod functions;
 mod guard;
+mod lists;
 mod memory;
 mod paver;
 mod port;
@@ -208,6 +210,7 @@ fn main() {
         "job" => job(seed, count),
         "demands" => demand(seed, count),
         "text" => text::run(seed, count),
+        "lists" => lists::run(seed, count),
         "guard" => guard::run(seed, count),
         "threads" => threads::run(seed, count),
         "stack" => stack::run(seed, count),
@@ -218,6 +221,6 @@ fn main() {
 }
 
 fn stop() -> ! {
-    eprintln!("compare [root|functions|sample|rows|close|fan|job|demands|guard|threads|stack] SEED COUNT, all SEED HOURS, or request");
+    eprintln!("compare [root|functions|sample|rows|close|fan|job|demands|text|lists|guard|threads|stack] SEED COUNT, all SEED HOURS, or request");
     exit(2)
 }

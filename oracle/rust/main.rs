@@ -1,11 +1,13 @@
 //! driver                      answers requests from standard input (see requests.rs)
 //! driver pave                 the program of document 01, from standard input
+//! driver recheck              the program of document 02's change 2, from standard input
 //! driver jobs SEED COUNT      prints the generator's jobs as requests
 //! driver texts SEED COUNT     prints the generator's texts, each after a line with the number of its bytes
+//! driver lists SEED COUNT     the same of the generator's tile lists
 //! driver demands SEED COUNT   pits demand 3 against the oracle
 //! driver selftest SEED COUNT  compares the oracle with itself, and with pavers that have a fault
 
-use oracle::{compare, demands, faults, generate, requests, text, texts};
+use oracle::{compare, demands, faults, generate, lists, recheck, requests, text, texts};
 use std::io::{Read, Write};
 use std::process::exit;
 
@@ -15,14 +17,29 @@ const LEAST_STATES: u64 = 2_000;
 /// And so many texts.
 const LEAST_TEXTS: u64 = 20_000;
 
+/// And so many tile lists.
+const LEAST_LISTS: u64 = 100_000;
+
 fn input() -> Vec<u8> {
     let mut bytes = Vec::new();
     std::io::stdin().read_to_end(&mut bytes).expect("standard input");
     bytes
 }
 
+fn put(bytes: &[u8]) {
+    std::io::stdout().write_all(bytes).expect("standard output");
+}
+
 fn print(text: &str) {
-    std::io::stdout().write_all(text.as_bytes()).expect("standard output");
+    put(text.as_bytes());
+}
+
+/// Texts or tile lists, each after a line with the number of its bytes.
+fn print_all(all: impl Iterator<Item = Vec<u8>>) {
+    let mut out = std::io::stdout().lock();
+    for text in all {
+        out.write_all(&[format!("{}\n", text.len()).as_bytes(), &text].concat()).expect("standard output");
+    }
 }
 
 fn seed_and_count(words: &[String]) -> (u64, u64) {
@@ -37,6 +54,21 @@ fn stop(why: &str) -> ! {
     exit(2)
 }
 
+/// The reader of tile lists with itself, and with readers that have a fault.
+fn lists_seen(seed: u64, count: u64) -> bool {
+    let mut same = |text: &[u8]| recheck::recheck(text);
+    let mut right = lists::Lists::new(&mut same, 0);
+    let mut good = right.run(seed, count).is_ok();
+    print(&right.text());
+    for (name, fault) in lists::faults() {
+        let mut program = |text: &[u8]| fault(text);
+        let seen = lists::Lists::new(&mut program, 0).run(seed, count);
+        print(&format!("lists, {name}: {}\n", seen.as_ref().err().and_then(|d| d.lines().next()).unwrap_or("not seen")));
+        good &= seen.is_err();
+    }
+    good
+}
+
 fn main() {
     let words: Vec<String> = std::env::args().skip(1).collect();
     match (words.first().map(String::as_str), words.len()) {
@@ -45,6 +77,7 @@ fn main() {
             Err(why) => stop(&why),
         },
         (Some("pave"), 1) => print(&text::pave(&input())),
+        (Some("recheck"), 1) => put(&recheck::recheck(&input())),
         (Some("jobs"), 3) => {
             let (seed, count) = seed_and_count(&words[1..]);
             for i in 0..count {
@@ -54,11 +87,12 @@ fn main() {
         }
         (Some("texts"), 3) => {
             let (seed, count) = seed_and_count(&words[1..]);
-            let mut out = std::io::stdout().lock();
-            for i in 0..count {
-                let (text, _) = texts::text(seed, i);
-                out.write_all(&[format!("{}\n", text.len()).as_bytes(), &text].concat()).expect("standard output");
-            }
+            print_all((0..count).map(|i| texts::text(seed, i).0));
+        }
+        (Some("lists"), 3) => {
+            let (seed, count) = seed_and_count(&words[1..]);
+            let mut maker = lists::Maker::new(seed);
+            print_all((0..count).map(|i| maker.list(i).0));
         }
         (Some("demands"), 3) => {
             let (seed, count) = seed_and_count(&words[1..]);
@@ -111,6 +145,7 @@ fn main() {
                 print(&format!("demand 3, {name}: {n} exceptions\n"));
                 bad |= n == 0;
             }
+            bad |= !lists_seen(seed, count.max(LEAST_LISTS));
             let count = count.max(LEAST_TEXTS);
             let mut same = |text: &[u8]| text::pave(text).into_bytes();
             let mut right = texts::Texts::new(&mut same, 0);

@@ -12,6 +12,9 @@ pub const NUMBERS: [u8; 8] = [0, 1, 4, 6, 7, 10, 11, 21];
 
 const MOST_BYTES: usize = 65_536;
 
+/// Up to so many texts are tried when one is made smaller.
+const MOST_TRIED: usize = 20_000;
+
 /// A job's text: coordinates and size as whole numbers, within the limits.
 pub fn written(job: &Job) -> Vec<u8> {
     let by = if job.h < 100.0 { (1_000.0 / job.h).min(1_000_000.0 / job.xy.iter().fold(1.0, |m, x| x.abs().max(m))).max(1.0) } else { 1.0 };
@@ -91,7 +94,7 @@ fn at_a_limit(r: &mut Random) -> (Vec<u8>, &'static str) {
 }
 
 /// The places of the numbers: after a tab, up to the next tab or line end.
-fn numbers_in(text: &[u8]) -> Vec<(usize, usize)> {
+pub(crate) fn numbers_in(text: &[u8]) -> Vec<(usize, usize)> {
     let mut out = Vec::new();
     for (i, _) in text.iter().enumerate().filter(|(_, b)| **b == b'\t') {
         let end = text[i + 1..].iter().position(|b| matches!(b, b'\t' | b'\n')).map_or(text.len(), |n| i + 1 + n);
@@ -100,7 +103,7 @@ fn numbers_in(text: &[u8]) -> Vec<(usize, usize)> {
     out
 }
 
-fn lines_of(text: &[u8]) -> Vec<Vec<u8>> {
+pub(crate) fn lines_of(text: &[u8]) -> Vec<Vec<u8>> {
     text.split_inclusive(|b| *b == b'\n').map(<[u8]>::to_vec).collect()
 }
 
@@ -208,7 +211,7 @@ const WAYS: [Way; 24] = [
     }),
 ];
 
-fn some<'a, T>(r: &mut Random, list: &'a [T]) -> Option<&'a T> {
+pub(crate) fn some<'a, T>(r: &mut Random, list: &'a [T]) -> Option<&'a T> {
     if list.is_empty() { None } else { Some(&list[r.below(list.len())]) }
 }
 
@@ -246,7 +249,7 @@ pub fn text(seed: u64, index: u64) -> (Vec<u8>, &'static str) {
 }
 
 /// The number of an answer: 0 for `done`.
-fn number(answer: &[u8]) -> u8 {
+pub(crate) fn number(answer: &[u8]) -> u8 {
     answer.strip_prefix(b"refused\t").and_then(|rest| std::str::from_utf8(rest).ok()?.trim_end().parse().ok()).unwrap_or(0)
 }
 
@@ -263,7 +266,7 @@ pub struct Texts<'a> {
     different: u64,
 }
 
-fn list(numbers: &BTreeMap<u8, u64>) -> String {
+pub(crate) fn list(numbers: &BTreeMap<u8, u64>) -> String {
     let words: Vec<String> = numbers.iter().map(|(number, n)| format!("{number:02} {n}")).collect();
     words.join(", ")
 }
@@ -310,7 +313,7 @@ impl<'a> Texts<'a> {
     /// The difference, and the text made smaller.
     fn told(&mut self, seed: u64, index: u64, kind: &str, text: Vec<u8>) -> String {
         let before = text.len();
-        let (small, tried) = reduced(text, &mut |t| (self.program)(t) != text::pave(t).as_bytes());
+        let (small, tried) = reduced(text, &mut |t| (self.program)(t) != text::pave(t).as_bytes(), MOST_TRIED);
         let (given, right) = ((self.program)(&small), text::pave(&small).into_bytes());
         let at = given.iter().zip(&right).position(|(a, b)| a != b).unwrap_or(given.len().min(right.len()));
         let around = |list: &[u8]| list[at.saturating_sub(20).min(list.len())..(at + 20).min(list.len())].escape_ascii().to_string();
@@ -340,7 +343,7 @@ impl Kind for Texts<'_> {
 }
 
 /// A text made smaller while it still differs, lines first, then bytes; and how many were tried.
-fn reduced(mut t: Vec<u8>, differs: &mut dyn FnMut(&[u8]) -> bool) -> (Vec<u8>, usize) {
+pub(crate) fn reduced(mut t: Vec<u8>, differs: &mut dyn FnMut(&[u8]) -> bool, most_tried: usize) -> (Vec<u8>, usize) {
     let mut tried = 0;
     for by_lines in [true, false, true, false] {
         loop {
@@ -348,9 +351,9 @@ fn reduced(mut t: Vec<u8>, differs: &mut dyn FnMut(&[u8]) -> bool) -> (Vec<u8>, 
             let parts: Vec<Vec<u8>> = if by_lines { lines_of(&t) } else { t.iter().map(|&b| vec![b]).collect() };
             let mut kept = parts;
             let mut size = kept.len().div_ceil(2);
-            while size > 0 && tried < 20_000 {
+            while size > 0 && tried < most_tried {
                 let mut from = 0;
-                while from < kept.len() {
+                while from < kept.len() && tried < most_tried {
                     let other = [&kept[..from], &kept[(from + size).min(kept.len())..]].concat();
                     tried += 1;
                     if differs(&other.concat()) {

@@ -2,7 +2,7 @@
 use mathlib.Core.Path.{_≡_, refl, ap}
 use mathlib.Core.Bool.{false}
 use mathlib.Core.List.{List, [], _∷_, _++_, map, append-assoc}
-use Prim.Native.Nat.{ℕ, _*_, _%_, _≤_}
+use Prim.Native.Nat.{ℕ, _+_, _*_, _%_, _≤_}
 use native.Mathlib.Omega.{arith}
 use lib.Ieee.{Float}
 use lib.ListN.{length, take, length-append}
@@ -71,12 +71,12 @@ module _ (b : Held) (sound : Sound b) where
       let l3 = length-append quads fronts in
       rw pieces (omega arith)
 
--- the place behind a text from the buffer's front
-pub place-within : {d t e : List ℕ} {r : ℕ} (n : ℕ) → Put d 0 t e r → length t ≤ n → r ≤ n
+-- the place behind a text
+pub place-within : {d t e : List ℕ} {at r : ℕ} (n : ℕ) → Put d at t e r → length t ≤ n → r ≤ at + n
 place-within n p h = let g = p .place in omega arith
 
-pub room-within : (d t : List ℕ) (n : ℕ) → length t ≤ n → n ≤ length d → Room d 0 t
-room-within d t n h g = omega arith
+pub room-within : (d : List ℕ) (at : ℕ) (t : List ℕ) (n : ℕ) → length t ≤ n → at + n ≤ length d → Room d at t
+room-within d at t n h g = omega arith
 
 pub refused-fits : (n : ℕ) → length (refusedText n) ≤ textLimit
 unfolding refusedText

@@ -1,6 +1,6 @@
 // The text of a state, of a refusal, and of either.
 ghost use mathlib.Core.List.{[], _∷_};
-ghost use Prim.Native.Nat.{_≤_};
+ghost use Prim.Native.Nat.{_+_, _≤_};
 ghost use lib.ListN.{length};
 ghost use Rattle.state.specs.State.{noCounts, reading};
 ghost use Rattle.state.specs.Call.{held, left};
@@ -8,10 +8,10 @@ ghost use Rattle.state.specs.Sound.{Sound};
 ghost use Rattle.text.specs.Putting.{Put, Room};
 ghost use Rattle.answer_text.specs.AnswerText.{numbersText, lineText, countNumbers, stateText, refusedText, answerText};
 ghost use Rattle.answer_text.specs.Fits.{textLimit, SoundAnswer};
-use crate::lines::put_fronts;
 use crate::lines::put_number;
 use crate::lines::put_points;
 use crate::lines::put_quads;
+use crate::lines::put_rings;
 use state::Answer;
 use state::Counts;
 use text::put_byte;
@@ -27,11 +27,11 @@ fn put_four(out: &mut [u8], at: usize, a: usize, b: usize, c: usize, d: usize) -
     put_number(out, fourth, d as u64)
 }
 
-fn put_counts(out: &mut [u8], counts: Counts) -> usize
-    requires { ⌜ Room (now out) 0 (lineText (100 ∷ 111 ∷ 110 ∷ 101 ∷ []) (countNumbers counts)) ⌝ }
-    ensures { λ r. ⌜ Put (now (out .entry)) 0 (lineText (100 ∷ 111 ∷ 110 ∷ 101 ∷ []) (countNumbers counts)) (now (out .exit)) r ⌝ }
+fn put_counts(out: &mut [u8], at: usize, counts: Counts) -> usize
+    requires { ⌜ Room (now out) at (lineText (100 ∷ 111 ∷ 110 ∷ 101 ∷ []) (countNumbers counts)) ⌝ }
+    ensures { λ r. ⌜ Put (now (out .entry)) at (lineText (100 ∷ 111 ∷ 110 ∷ 101 ∷ []) (countNumbers counts)) (now (out .exit)) r ⌝ }
 {
-    let first = put_bytes(out, 0, b"done");
+    let first = put_bytes(out, at, b"done");
     let half = put_four(
         out,
         first,
@@ -51,25 +51,27 @@ fn put_counts(out: &mut [u8], counts: Counts) -> usize
     put_byte(out, end, b'\n')
 }
 
+// The text of a state from `at` on.
 pub fn put_state(
     out: &mut [u8],
+    at: usize,
     points: &[f64],
     quads: &[u16],
     front_nodes: &[u16],
     front_lengths: &[u16],
     counts: Counts,
 ) -> usize
-    requires { ⌜ textLimit ≤ length (now out) ⌝ }
+    requires { ⌜ at + textLimit ≤ length (now out) ⌝ }
     requires { ⌜ Sound (held (now points) (now quads) (now «front_nodes») (now «front_lengths») counts) ⌝ }
-    ensures { λ r. ⌜ Put (now (out .entry)) 0 (stateText (reading (held (now (points .entry)) (now (quads .entry)) (now («front_nodes» .entry)) (now («front_lengths» .entry)) counts))) (now (out .exit)) r ⌝ }
-    ensures { λ r. ⌜ r ≤ textLimit ⌝ }
+    ensures { λ r. ⌜ Put (now (out .entry)) at (stateText (reading (held (now (points .entry)) (now (quads .entry)) (now («front_nodes» .entry)) (now («front_lengths» .entry)) counts))) (now (out .exit)) r ⌝ }
+    ensures { λ r. ⌜ r ≤ at + textLimit ⌝ }
 {
     let coords = counts.points * 2;
     let fronts = counts.fronts;
-    let first = put_counts(out, counts);
+    let first = put_counts(out, at, counts);
     let second = put_points(out, first, &points[..coords]);
     let third = put_quads(out, second, quads, counts.quads);
-    put_fronts(out, third, front_nodes, &front_lengths[..fronts])
+    put_rings(out, third, b'f', front_nodes, &front_lengths[..fronts])
 }
 
 pub fn put_refused(out: &mut [u8], number: u32) -> usize
@@ -96,7 +98,15 @@ pub fn put_answer(
     ensures { λ r. ⌜ r ≤ textLimit ⌝ }
 {
     match answer {
-        Answer::Done(counts) => put_state(out, points, quads, front_nodes, front_lengths, counts),
+        Answer::Done(counts) => put_state(
+            out,
+            0,
+            points,
+            quads,
+            front_nodes,
+            front_lengths,
+            counts,
+        ),
         Answer::Refused(number) => put_refused(out, number),
     }
 }

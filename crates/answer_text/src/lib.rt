@@ -5,3 +5,4 @@ mod lines;
 pub use answer::put_answer;
 pub use answer::put_refused;
 pub use answer::put_state;
+pub use lines::put_rings;

@@ -95,17 +95,18 @@ pub fn put_quads(out: &mut [u8], at: usize, quads: &[u16], n: usize) -> usize
     next
 }
 
-pub fn put_fronts(out: &mut [u8], at: usize, nodes: &[u16], lengths: &[u16]) -> usize
-    requires { ⌜ Room (now out) at (linesText (102 ∷ []) (cut (now lengths) (now nodes))) ⌝ }
+// A line for each of the lists of nodes that stand one after the other, of these lengths.
+pub fn put_rings(out: &mut [u8], at: usize, letter: u8, nodes: &[u16], lengths: &[u16]) -> usize
+    requires { ⌜ Room (now out) at (linesText (letter ∷ []) (cut (now lengths) (now nodes))) ⌝ }
     requires { ⌜ sumOf (now lengths) ≤ length (now nodes) ⌝ }
-    ensures { λ r. ⌜ Put (now (out .entry)) at (linesText (102 ∷ []) (cut (now (lengths .entry)) (now (nodes .entry)))) (now (out .exit)) r ⌝ }
+    ensures { λ r. ⌜ Put (now (out .entry)) at (linesText (letter ∷ []) (cut (now (lengths .entry)) (now (nodes .entry)))) (now (out .exit)) r ⌝ }
 {
     let mut next = at;
     let mut start = 0usize;
     let mut i = 0usize;
     while i < lengths.len() {
         let end = start + wide(lengths[i]);
-        next = put_line(out, next, b'f', &nodes[start..end]);
+        next = put_line(out, next, letter, &nodes[start..end]);
         start = end;
         i += 1;
     }

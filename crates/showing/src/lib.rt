@@ -42,7 +42,7 @@ fn put_shown(
     if wrong_state(points, quads, front_nodes, front_lengths, counts) {
         return 0;
     }
-    put_state(out, points, quads, front_nodes, front_lengths, counts)
+    put_state(out, 0, points, quads, front_nodes, front_lengths, counts)
 }
 
 pub fn show_state(

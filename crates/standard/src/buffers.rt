@@ -23,3 +23,17 @@ pub fn picture_buffer() -> [u8; 1638400]
 {
     [0; 1638400]
 }
+
+// One byte more than `recheck` asks for, since no list is as long as that: a longer text is cut there, and is unreadable all the same.
+pub fn list_input() -> [u8; 286721]
+    ensures { λ r. ⌜ 286721 ≡ length r ⌝ }
+{
+    [0; 286721]
+}
+
+// What `recheck` asks for.
+pub fn list_buffer() -> [u8; 286720]
+    ensures { λ r. ⌜ 286720 ≡ length r ⌝ }
+{
+    [0; 286720]
+}

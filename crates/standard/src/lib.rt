@@ -3,6 +3,8 @@ mod buffers;
 
 pub use buffers::answer_buffer;
 pub use buffers::input_buffer;
+pub use buffers::list_buffer;
+pub use buffers::list_input;
 pub use buffers::picture_buffer;
 ghost use Prim.Native.Nat.{_≤_};
 ghost use lib.ListN.{length};

@@ -48,7 +48,7 @@ module _ (b : Held) (sound : Sound b) where
   unfolding reading
   others-held = (refl, refl, refl, refl, refl)
 
-  counts-held : b .counts ≡ written (reading b) .counts
+  pub counts-held : b .counts ≡ written (reading b) .counts
   unfolding written
   counts-held =
       rw (nodes-read b counted, quads-read b counted, fronts-read b counted, others-held .0, others-held .1, others-held .2, others-held .3, others-held .4)

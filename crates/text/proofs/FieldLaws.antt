@@ -71,7 +71,7 @@ module _ (t : List ℕ) (at : ℕ) where
   unfolding fieldEnd
   end-within h = let s = field-short (drop at t) in let d = length-drop at t in (omega arith, omega arith)
 
-drop-take : (a n : ℕ) (l : List ℕ) → drop a (take (a + n) l) ≡ take n (drop a l)
+pub drop-take : (a n : ℕ) (l : List ℕ) → drop a (take (a + n) l) ≡ take n (drop a l)
 drop-take zero n l = rw zero-add
 drop-take (suc a) n [] = rw suc-add (sym (take-nil n))
 drop-take (suc a) n (x ∷ l) = rw suc-add (drop-take a n l)

@@ -184,7 +184,7 @@ leading (suc k) n h = by (ltb n 10) refl (leading k (n / 10) small)
 
 -- ---- so reading gives it
 
-same-is : (xs ys : List ℕ) → sameBytes xs ys ≡ true → xs ≡ ys
+pub same-is : (xs ys : List ℕ) → sameBytes xs ys ≡ true → xs ≡ ys
 unfolding sameBytes
 same-is [] [] e = refl
 same-is [] (y ∷ ys) e = absurd (true≢false (sym e))
@@ -195,7 +195,7 @@ same-is (x ∷ xs) (y ∷ ys) e = by (eqb x y) refl (λ s. same-is xs ys s) e
     by true t i e = let h = eqb-true x y t in let r = i e in cc
     by false t i e = absurd (true≢false (sym e))
 
-is-same : (xs : List ℕ) → sameBytes xs xs ≡ true
+pub is-same : (xs : List ℕ) → sameBytes xs xs ≡ true
 unfolding sameBytes
 is-same [] = refl
 is-same (x ∷ xs) = rw (eq-eqb x x refl) (is-same xs)

@@ -1,9 +1,11 @@
 // Text as bytes: whole numbers in decimal digits, where a field ends, and words. It knows of no job.
 mod fields;
+mod hexadecimal;
 mod numbers;
 
 pub use fields::begins_with;
 pub use fields::field_end;
+pub use hexadecimal::hex;
 pub use numbers::Number;
 pub use numbers::natural;
 

@@ -84,4 +84,5 @@ extern "C" {
     ) -> f64;
     pub fn pave_in_front(x: f64, y: f64, points: *const f64, points_len: usize, nodes: *const u16, nodes_len: usize) -> bool;
     pub fn pave_text(input: *const u8, input_len: usize, output: *mut u8, output_len: usize) -> u64;
+    pub fn pave_recheck(input: *const u8, input_len: usize, output: *mut u8, output_len: usize) -> u64;
 }

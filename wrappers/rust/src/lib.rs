@@ -37,6 +37,7 @@ mod calls;
 pub mod geometry;
 mod job;
 pub mod lent;
+pub mod list;
 mod paving;
 mod refusal;
 pub mod text;

@@ -54,6 +54,9 @@ refusals! {
     25 State "the state given back is not one"
     26 FanCentre "no point tried for the fan's centre is inside both the front and the plate"
     27 FanCorner "a quad of the fan fails the corner test"
+    30 List "the text is not a tile list"
+    31 Pair "a pair of nodes is counted neither never nor twice in a tile list"
+    32 ListCorner "a quad of a tile list fails the corner test"
 }
 
 impl Refusal {

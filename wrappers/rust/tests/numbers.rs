@@ -25,7 +25,7 @@ fn every_number_has_a_section() {
     let numbers: Vec<u32> = sections().iter().map(|section| section.0).collect();
     let listed: Vec<u32> = Refusal::ALL.iter().map(|refusal| refusal.number()).collect();
     assert_eq!(numbers, listed);
-    assert_eq!(listed, (1..=11).chain(20..=27).collect::<Vec<_>>());
+    assert_eq!(listed, (1..=11).chain(20..=27).chain(30..=32).collect::<Vec<_>>());
 }
 
 #[test]
@@ -36,7 +36,14 @@ fn each_plate_gives_its_number() {
             let text = common::read(&common::top().join(&plate));
             let wanted = format!("refused\t{number}");
             let job_text = plate.starts_with("plates/jobs/");
-            let found = if job_text { common::pave(&text) } else { common::request(&text) };
+            let list = plate.starts_with("plates/lists/");
+            let found = if job_text {
+                common::pave(&text)
+            } else if list {
+                common::recheck(&text)
+            } else {
+                common::request(&text)
+            };
             assert_eq!(found.lines().next(), Some(&wanted[..]), "{plate}");
             if let (true, Some(printed)) = (job_text, common::program(&text)) {
                 assert_eq!(printed, wanted + "\n", "{plate} by target/bin/pave");
@@ -48,7 +55,7 @@ fn each_plate_gives_its_number() {
 #[test]
 fn every_refused_plate_is_named() {
     let named: Vec<String> = sections().into_iter().flat_map(|section| section.1).collect();
-    for folder in ["plates", "plates/jobs"] {
+    for folder in ["plates", "plates/jobs", "plates/lists"] {
         for path in common::texts(folder) {
             let name = format!("{folder}/{}", path.file_name().unwrap().to_str().unwrap());
             assert!(!name.contains("refused") || named.contains(&name), "docs/NUMBERS.md does not name {name}");

@@ -21,6 +21,15 @@ fn job_texts() {
 }
 
 #[test]
+fn tile_lists() {
+    let paths = common::texts("plates/lists");
+    assert!(paths.len() >= 4, "{} tile lists", paths.len());
+    for path in paths {
+        assert!(common::recheck(&common::read(&path)) == common::recorded(&path), "{} is answered otherwise", path.display());
+    }
+}
+
+#[test]
 fn job_texts_by_the_program() {
     let mut run = 0;
     for path in common::texts("plates/jobs") {

@@ -174,6 +174,13 @@ pub fn pave(text: &str) -> String {
     answer(job_of(text).ok_or(Refusal::Text).and_then(|body| Paving::job(&body.job())))
 }
 
+/// What `recheck` answers to a tile list.
+pub fn recheck(text: &str) -> String {
+    let mut output = vec![0xA7; paving::list::ROOM];
+    let answer = paving::list::recheck(text.as_bytes(), &mut output).expect("room");
+    String::from_utf8(answer.to_vec()).expect("text")
+}
+
 /// The program `pave` where it is built, run on a text.
 pub fn program(text: &str) -> Option<String> {
     use std::io::Write;

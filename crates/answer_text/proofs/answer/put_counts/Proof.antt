@@ -20,8 +20,8 @@ abbrev other : Counts → List ℕ
 other n = n .«core_quads» ∷ n .«row_rounds» ∷ n .«passes_begun» ∷ n .laid ∷ []
 
 -- the line in its four pieces
-first : (s : tie.Start) → Midst (s .args .out .now) 0 (lineText word (countNumbers (s .args .counts))) (s .args .out .now) 0 (word ++ (numbersText (half (s .args .counts)) ++ (numbersText (other (s .args .counts)) ++ (lf ∷ []))))
-first s = let n = s .args .counts in same-rest (ap (λ t. word ++ t) (numbers-split (half n) (other n) (lf ∷ []))) (begin (s .args .out .now) 0 (lineText word (countNumbers n)))
+first : (s : tie.Start) → Midst (s .args .out .now) (s .args .at) (lineText word (countNumbers (s .args .counts))) (s .args .out .now) (s .args .at) (word ++ (numbersText (half (s .args .counts)) ++ (numbersText (other (s .args .counts)) ++ (lf ∷ []))))
+first s = let n = s .args .counts in same-rest (ap (λ t. word ++ t) (numbers-split (half n) (other n) (lf ∷ []))) (begin (s .args .out .now) (s .args .at) (lineText word (countNumbers n)))
 
 slice-aggregate-put-bytes : tie.Need-slice-aggregate-put-bytes
 slice-aggregate-put-bytes c = search needs

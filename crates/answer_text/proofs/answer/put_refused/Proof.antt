@@ -24,7 +24,7 @@ first : (s : tie.Start) → Midst (s .args .out .now) 0 (refusedText (s .args .n
 first s = same-rest (three (s .args .number)) (begin (s .args .out .now) 0 (refusedText (s .args .number)))
 
 fits : (s : tie.Start) → Room (s .args .out .now) 0 (refusedText (s .args .number))
-fits s = room-within (s .args .out .now) (refusedText (s .args .number)) textLimit (refused-fits (s .args .number)) (s .pre)
+fits s = room-within (s .args .out .now) 0 (refusedText (s .args .number)) textLimit (refused-fits (s .args .number)) (s .pre)
 
 slice-aggregate-put-bytes : tie.Need-slice-aggregate-put-bytes
 slice-aggregate-put-bytes c = search needs

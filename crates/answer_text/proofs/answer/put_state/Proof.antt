@@ -25,9 +25,9 @@ sound : (s : tie.Start) → Sound (given s)
 sound s = s .pre .1
 
 -- the text in its four pieces
-first : (s : tie.Start) → Midst (s .args .out .now) 0 (stateText (reading (given s))) (s .args .out .now) 0
+first : (s : tie.Start) → Midst (s .args .out .now) (s .args .at) (stateText (reading (given s))) (s .args .out .now) (s .args .at)
     (countsLine (given s) (sound s) ++ (points (given s) (sound s) ++ (quads (given s) (sound s) ++ fronts (given s) (sound s))))
-first s = same-rest (pieces (given s) (sound s)) (begin (s .args .out .now) 0 (stateText (reading (given s))))
+first s = same-rest (pieces (given s) (sound s)) (begin (s .args .out .now) (s .args .at) (stateText (reading (given s))))
 
 -- every number in the buffers of nodes is a u16, so the text is short
 short : (c : tie.After-shared-slice-known3) → length (stateText (reading (given (c .before .before .before .before)))) ≤ textLimit
@@ -36,8 +36,8 @@ short c =
     let quads : tie.After-shared-slice-known2 = search in
     state-fits (given entry) (sound entry) (λ i. omega (arith, quads .shared-slice-known2 .given i)) (λ i. omega (arith, c .shared-slice-known3 .given i))
 
-room-for : (c : tie.After-shared-slice-known3) → Room (c .before .before .before .before .args .out .now) 0 (stateText (reading (given (c .before .before .before .before))))
-room-for c = let s : tie.Start = search in room-within (s .args .out .now) (stateText (reading (given s))) textLimit (short c) (s .pre .0)
+room-for : (c : tie.After-shared-slice-known3) → Room (c .before .before .before .before .args .out .now) (c .before .before .before .before .args .at) (stateText (reading (given (c .before .before .before .before))))
+room-for c = let s : tie.Start = search in room-within (s .args .out .now) (s .args .at) (stateText (reading (given s))) textLimit (short c) (s .pre .0)
 
 -- the places before the points and before the counts
 abbrev counts-at : tie.After-put-points → tie.After-put-counts
@@ -81,13 +81,13 @@ put-quads-requires c κs =
     let h = sound entry in
     (room (quads b h) (fronts b h) (more (more (first entry) (counts .put-counts .ensures)) (laid .put-points .ensures)) (room-for known), quads-within b h)
 
-slice-aggregate-put-fronts : tie.Need-slice-aggregate-put-fronts
-slice-aggregate-put-fronts c =
+slice-aggregate-put-rings : tie.Need-slice-aggregate-put-rings
+slice-aggregate-put-rings c =
     let entry : tie.Start = search in
     sym (sizes-long (given entry) (sound-counted (given entry) (sound entry)))
 
-put-fronts-requires : tie.Need-put-fronts-requires
-put-fronts-requires c κs =
+put-rings-requires : tie.Need-put-rings-requires
+put-rings-requires c κs =
     let entry : tie.Start = search in
     let paved : tie.After-put-quads = search in
     let laid : tie.After-put-points = search in
@@ -103,11 +103,11 @@ same-length c = search needs
 returns : tie.Need-returns
 returns c =
     let entry : tie.Start = search in
-    let end : tie.After-put-fronts = search in
+    let end : tie.After-put-rings = search in
     let paved : tie.After-put-quads = search in
     let laid : tie.After-put-points = search in
     let counts = counts-at laid in
-    let whole = last (more (more (more (first entry) (counts .put-counts .ensures)) (laid .put-points .ensures)) (paved .put-quads .ensures)) (end .put-fronts .ensures) in
+    let whole = last (more (more (more (first entry) (counts .put-counts .ensures)) (laid .put-points .ensures)) (paved .put-quads .ensures)) (end .put-rings .ensures) in
     (whole, place-within textLimit whole (short (known-at counts)))
 
 pub put-state-spec : {M : Type 1} → statement M
@@ -119,7 +119,7 @@ put-state-spec =
     slice-aggregate-put-points
     put-points-requires
     put-quads-requires
-    slice-aggregate-put-fronts
-    put-fronts-requires
+    slice-aggregate-put-rings
+    put-rings-requires
     same-length
     returns)

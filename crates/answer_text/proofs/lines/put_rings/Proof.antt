@@ -1,4 +1,4 @@
--- `answer_text::lines::put_fronts` meets its contract. The invariant: the fronts from i on are left, and their nodes begin at `start`. The measure is their number.
+-- `answer_text::lines::put_rings` meets its contract. The invariant: the rings from i on are left, and their nodes begin at `start`. The measure is their number.
 use mathlib.Core.List.{[], _∷_}
 use Prim.Native.Nat.{_+_, _-_, _≤_}
 use native.Mathlib.Omega.{arith}
@@ -10,21 +10,21 @@ use Rattle.state.specs.State.{cut}
 use Rattle.text.proofs.Midst.{Midst, begin, more, room, ended, same-rest}
 use Rattle.answer_text.specs.AnswerText.{lineText, linesText}
 use Rattle.answer_text.proofs.LineLaws.{fronts-next, fronts-end, nodes-next}
-use Rattle.answer_text.proofs.lines.put_fronts.Statement.{statement}
-use Rattle.answer_text.proofs.lines.put_fronts.Tie as tie
+use Rattle.answer_text.proofs.lines.put_rings.Statement.{statement}
+use Rattle.answer_text.proofs.lines.put_rings.Tie as tie
 
 abbrev Inv-loop : tie.InvT-loop
-Inv-loop out₀ at nodes lengths next₀ start₀ i₀ out next start i =
-    (i ≤ length lengths) × (start + sumOf (drop i lengths) ≤ length nodes) × Midst out₀ at (linesText (102 ∷ []) (cut lengths nodes)) out next (linesText (102 ∷ []) (cut (drop i lengths) (drop start nodes)))
+Inv-loop out₀ at letter nodes lengths next₀ start₀ i₀ out next start i =
+    (i ≤ length lengths) × (start + sumOf (drop i lengths) ≤ length nodes) × Midst out₀ at (linesText (letter ∷ []) (cut lengths nodes)) out next (linesText (letter ∷ []) (cut (drop i lengths) (drop start nodes)))
 
 abbrev μ-loop : tie.MeasureT-loop
-μ-loop out₀ at nodes lengths next₀ start₀ i₀ out next start i = length lengths - i
+μ-loop out₀ at letter nodes lengths next₀ start₀ i₀ out next start i = length lengths - i
 
 loop-holds : tie.Need-loop-holds Inv-loop μ-loop
 loop-holds c = (omega arith, omega arith, begin _ _ _)
 
 mul-wide : tie.Need-mul-wide Inv-loop μ-loop
-mul-wide c = let entry : tie.Start Inv-loop μ-loop = search in scaled-fits _ (length (entry .args .lengths .now)) 2 (omega arith) (entry .good .1 .1 .1 .0 .1)
+mul-wide c = let entry : tie.Start Inv-loop μ-loop = search in scaled-fits _ (length (entry .args .lengths .now)) 2 (omega arith) (entry .good .1 .1 .1 .1 .0 .1)
 
 shared-slice-read-wide : tie.Need-shared-slice-read-wide Inv-loop μ-loop
 shared-slice-read-wide c = omega arith
@@ -52,7 +52,7 @@ mul-put-line : tie.Need-mul-put-line Inv-loop μ-loop
 mul-put-line c =
     let entry : tie.Start Inv-loop μ-loop = search in
     let g = within (c .before) in
-    omega (arith, entry .good .1 .1 .0 .1)
+    omega (arith, entry .good .1 .1 .1 .0 .1)
 
 sub-put-line : tie.Need-sub-put-line Inv-loop μ-loop
 sub-put-line c = omega arith
@@ -73,8 +73,8 @@ put-line-requires c κs =
     let i = turn .loop .i in
     let start = turn .loop .start in
     let n = read .wide .result in
-    room (lineText (102 ∷ []) (take (start + n - start) (drop start nodes))) (linesText (102 ∷ []) (cut (drop (i + 1) lengths) (drop (start + n) nodes)))
-    (same-rest (fronts-next (102 ∷ []) lengths nodes i start n (start + n - start) (omega arith) (read .wide .ensures) (omega arith)) (turn .loop .inv .2)) (entry .pre .0)
+    room (lineText (entry .args .letter ∷ []) (take (start + n - start) (drop start nodes))) (linesText (entry .args .letter ∷ []) (cut (drop (i + 1) lengths) (drop (start + n) nodes)))
+    (same-rest (fronts-next (entry .args .letter ∷ []) lengths nodes i start n (start + n - start) (omega arith) (read .wide .ensures) (omega arith)) (turn .loop .inv .2)) (entry .pre .0)
 
 add-i : tie.Need-add-i Inv-loop μ-loop
 add-i c = omega arith
@@ -94,7 +94,7 @@ loop-again c =
     let start = turn .loop .start in
     let n = read .wide .result in
     let left = nodes-next lengths i n (omega arith) (read .wide .ensures) in
-    (omega arith, omega arith, more (same-rest (fronts-next (102 ∷ []) lengths nodes i start n (start + n - start) (omega arith) (read .wide .ensures) (omega arith)) (turn .loop .inv .2)) (line .put-line .ensures))
+    (omega arith, omega arith, more (same-rest (fronts-next (entry .args .letter ∷ []) lengths nodes i start n (start + n - start) (omega arith) (read .wide .ensures) (omega arith)) (turn .loop .inv .2)) (line .put-line .ensures))
 
 same-length : tie.Need-same-length Inv-loop μ-loop
 same-length c = let turn : tie.At-loop Inv-loop μ-loop = search in turn .loop .inv .2 .long
@@ -103,10 +103,10 @@ returns : tie.Need-returns Inv-loop μ-loop
 returns c =
     let entry : tie.Start Inv-loop μ-loop = search in
     let turn : tie.At-loop Inv-loop μ-loop = search in
-    ended (same-rest (fronts-end (102 ∷ []) (entry .args .lengths .now) (entry .args .nodes .now) (turn .loop .i) (turn .loop .start) (omega arith)) (turn .loop .inv .2))
+    ended (same-rest (fronts-end (entry .args .letter ∷ []) (entry .args .lengths .now) (entry .args .nodes .now) (turn .loop .i) (turn .loop .start) (omega arith)) (turn .loop .inv .2))
 
-pub put-fronts-spec : {M : Type 1} → statement M
-put-fronts-spec =
+pub put-rings-spec : {M : Type 1} → statement M
+put-rings-spec =
     tie.close
     (tie.spec
     Inv-loop

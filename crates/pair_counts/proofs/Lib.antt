@@ -1,0 +1,10 @@
+pub mod Every
+pub mod Twice
+pub mod Tallies
+pub mod Walking
+pub mod Turns
+pub mod Linking
+pub mod Filling
+pub mod Ends
+pub mod Flat
+pub mod Groups

@@ -1,0 +1,4 @@
+pub mod Twice
+pub mod Sides
+pub mod Chains
+pub mod Tally

@@ -1,0 +1,10 @@
+pub mod Parts
+pub mod Saying
+pub mod Allowing
+pub mod Readable
+pub mod Going
+pub mod Numbering
+pub mod Ringing
+pub mod Counting
+pub mod Pointing
+pub mod Listing
