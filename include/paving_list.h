@@ -3,7 +3,7 @@
  * A tile list is an s line of nodes for each sampled loop, then what the program pave prints for an accepted job.
  *
  * What paving.h says of slices, threads and the caller's part holds here too. Its stack: the call's own buffers have 254,016
- * bytes, so a thread needs more than 256 KiB.
+ * bytes; what it takes in all was not measured. A thread with 512 KiB has room for twice the buffers.
  */
 #ifndef PAVING_LIST_H
 #define PAVING_LIST_H
