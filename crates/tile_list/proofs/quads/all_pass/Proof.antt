@@ -38,9 +38,12 @@ passes-requires c κs =
     let i = turn .loop .i in
     (rw (q .0) (below (i * 4) (omega arith)), rw (q .1) (below (i * 4 + 1) (omega arith)), rw (q .2) (below (i * 4 + 2) (omega arith)), rw (q .3) (below (i * 4 + 3) (omega arith)))
 
+abbrev start-of : tie.After-passes Inv-loop μ-loop → tie.Start Inv-loop μ-loop
+start-of c = search
+
 -- the test is the default limit's
-tested : (c : tie.After-passes Inv-loop μ-loop) → let e = c .before .before .before .before .before .before .before in
-    c .passes .result ≡ quadPasses defaultLimit (e .args .points .now) (quad (c .before .four-at .result .a) (c .before .four-at .result .b) (c .before .four-at .result .c) (c .before .four-at .result .d))
+tested : (c : tie.After-passes Inv-loop μ-loop)
+    → c .passes .result ≡ quadPasses defaultLimit (start-of c .args .points .now) (quad (c .before .four-at .result .a) (c .before .four-at .result .b) (c .before .four-at .result .c) (c .before .four-at .result .d))
 tested c =
     let limit : tie.After-default-limit Inv-loop μ-loop = search in
     rw (limit .default-limit .ensures) at (c .passes .ensures)
