@@ -23,6 +23,8 @@ FIRST = [
     ("tile_list/proofs/Verdicts.antt", "same_bytes", "same_bytes_lem"),
     ("float/proofs/Choices.antt", "is-nan", "is_nan_lem"),
 ]
+# names of the library that keep a capital
+KEEP = {"scaled_Fits", "not_T"}
 # functions of the library whose names stand before a dash in a lemma's name
 LIBRARY = set("length take drop map append set sets get_or replicate sum reverse size round lt le num den neg root to_bits of_bits decimal".split())
 IDENT = re.compile(r"[^\s(){}\[\]<>.;,:\"«»⌜⌝`+*/%=|&≡≤≢×→↔λ∷⊎?≠∘@#!$~^]+")
@@ -65,8 +67,35 @@ def is_word(name):
     return re.match(r"[a-z]", name) is not None
 
 
+def locals_too(top):
+    """What is still in camel case: definitions below a module's parameters, local names, aliases of imports."""
+    word = re.compile(r"[a-z][a-z0-9]*(?:_[a-z0-9]+)*[A-Z][A-Za-z0-9_']*$")
+    changed = 0
+    for p in files(top, ".antt", ".rt", ".edit"):
+        t = open(p, encoding="utf-8").read()
+
+        def put(m):
+            w = m.group(0)
+            return snake(w) if word.match(w) and w not in KEEP and "-" not in w else w
+
+        def line(l):
+            if re.match(r"\s*(?:pub )?(?:ghost )?use Rattle\.std", l):
+                return l
+            if p.endswith(".rt"):
+                return "".join(x if x.startswith('"') else IDENT.sub(put, x) for x in re.split(r'("(?:\\.|[^"\\\n])*")', l))
+            return IDENT.sub(put, l)
+
+        new = "\n".join(line(l) for l in t.split("\n"))
+        if new != t:
+            open(p, "w", encoding="utf-8").write(new)
+            changed += 1
+    print(f"{changed} files with names that were left")
+
+
 def main():
     top = os.getcwd()
+    if sys.argv[1:] == ["--locals"]:
+        return locals_too(top)
     antt = list(files(top, ".antt"))
     text = {p: open(p, encoding="utf-8").read() for p in antt}
     for end, o, n in FIRST:
@@ -156,6 +185,7 @@ def main():
             open(p, "w", encoding="utf-8").write(new)
             changed += 1
     print(f"{changed} files, {len(camel)} names of camel case, {len(dash)} with a dash")
+    locals_too(top)
 
 
 def is_alias(before, t):

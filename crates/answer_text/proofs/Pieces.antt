@@ -30,8 +30,8 @@ module _ (b : Held) (sound : Sound b) where
   abbrev counted : Counted b
   counted = sound_counted b sound
 
-  abbrev pub countsLine : List ℕ
-  countsLine = line_text (100 ∷ 111 ∷ 110 ∷ 101 ∷ []) (count_numbers b.counts)
+  abbrev pub counts_line : List ℕ
+  counts_line = line_text (100 ∷ 111 ∷ 110 ∷ 101 ∷ []) (count_numbers b.counts)
 
   abbrev pub points : List ℕ
   points = points_text (take (b.counts.points * 2) b.points)
@@ -46,7 +46,7 @@ module _ (b : Held) (sound : Sound b) where
   unfolding reading
   counts_read = rw (nodes-read b counted, quads_read b counted, fronts_read b counted)
 
-  pub pieces : state_text (reading b) ≡ countsLine ++ (points ++ (quads ++ fronts))
+  pub pieces : state_text (reading b) ≡ counts_line ++ (points ++ (quads ++ fronts))
   unfolding state_text reading
   pieces = ap (λ (ns : List ℕ). line_text (100 ∷ 111 ∷ 110 ∷ 101 ∷ []) ns ++ (points ++ (quads ++ fronts))) counts_read
 
@@ -66,7 +66,7 @@ module _ (b : Held) (sound : Sound b) where
       let nq = sound.quads in
       let nf = sound.fronts in
       let nn = sound.front_nodes in
-      let l1 = length-append countsLine (points ++ (quads ++ fronts)) in
+      let l1 = length-append counts_line (points ++ (quads ++ fronts)) in
       let l2 = length-append points (quads ++ fronts) in
       let l3 = length-append quads fronts in
       rw pieces (omega arith)

@@ -133,5 +133,5 @@ module _ (b : Held) (sound : Sound b) (limit : Float) where
     pub closes : (Q' N' L' : List ℕ) (k : ℕ) → Q' ≡ sets Q (b.counts.quads * 4) (numbers added) → k ≡ length kept → N' ≡ padded (length N) 0 (joined kept) → L' ≡ padded (length L) 0 (map length kept)
         → left (Answers.Done (counts-after k)) (held P Q' N' L' b.counts) ≡ state_left b (closings limit (reading b))
     unfolding closings state_left
-    closes Q' N' L' k hQ hk hN hL =
-        rw (quads_after, ← hn, le-ltb _ _ room) (done_is after (held P Q' N' L' (counts-after k)) (same_held points_field (hQ ∙ quads_field) (hN ∙ nodes-field) (hL ∙ lengths-field) (counts_field k hk)))
+    closes Q' N' L' k h_q hk h_n h_l =
+        rw (quads_after, ← hn, le-ltb _ _ room) (done_is after (held P Q' N' L' (counts-after k)) (same_held points_field (h_q ∙ quads_field) (h_n ∙ nodes-field) (h_l ∙ lengths-field) (counts_field k hk)))

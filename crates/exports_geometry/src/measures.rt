@@ -2,7 +2,7 @@
 // them, whose last number counts for nothing where it has no partner.
 ghost use Rattle.std.specs.Prelude.{◌≡◌};
 ghost use Rattle.float.specs.Root.{root};
-ghost use Rattle.geometry.specs.Measures as geometryMeasures;
+ghost use Rattle.geometry.specs.Measures as geometry_measures;
 ghost use Rattle.input.specs.Limit.{default_limit};
 ghost use Rattle.exports_geometry.specs.Measures.{point, ring, sharp_or_not};
 
@@ -19,7 +19,7 @@ pub extern "C" fn pave_root(x: f64) -> f64
 // The length of the side from (ax, ay) to (bx, by).
 #[unsafe(no_mangle)]
 pub extern "C" fn pave_side_length(ax: f64, ay: f64, bx: f64, by: f64) -> f64
-    ensures { result ≡ geometryMeasures.side_length (point ax ay) (point bx by) }
+    ensures { result ≡ geometry_measures.side_length (point ax ay) (point bx by) }
 {
     geometry::side_length(Point { x: ax, y: ay }, Point { x: bx, y: by })
 }
@@ -35,7 +35,7 @@ pub extern "C" fn pave_segment_distance(
     bx: f64,
     by: f64,
 ) -> f64
-    ensures { result ≡ geometryMeasures.segment_distance short (point x y) (point ax ay) (point bx by) }
+    ensures { result ≡ geometry_measures.segment_distance short (point x y) (point ax ay) (point bx by) }
 {
     geometry::segment_distance(
         short,
@@ -57,7 +57,7 @@ pub extern "C" fn pave_segments_cross(
     dx: f64,
     dy: f64,
 ) -> bool
-    ensures { result ≡ geometryMeasures.segments_cross (point ax ay) (point bx by) (point cx cy) (point dx dy) }
+    ensures { result ≡ geometry_measures.segments_cross (point ax ay) (point bx by) (point cx cy) (point dx dy) }
 {
     geometry::segments_cross(
         Point { x: ax, y: ay },
@@ -79,7 +79,7 @@ pub extern "C" fn pave_corners_pass(
     dx: f64,
     dy: f64,
 ) -> bool
-    ensures { result ≡ geometryMeasures.corners_pass default_limit (point ax ay) (point bx by) (point cx cy) (point dx dy) }
+    ensures { result ≡ geometry_measures.corners_pass default_limit (point ax ay) (point bx by) (point cx cy) (point dx dy) }
 {
     geometry::corners_pass(
         Point { x: ax, y: ay },
@@ -102,7 +102,7 @@ pub extern "C" fn pave_least_corner(
     dx: f64,
     dy: f64,
 ) -> f64
-    ensures { result ≡ geometryMeasures.least_corner (point ax ay) (point bx by) (point cx cy) (point dx dy) }
+    ensures { result ≡ geometry_measures.least_corner (point ax ay) (point bx by) (point cx cy) (point dx dy) }
 {
     geometry::least_corner(
         Point { x: ax, y: ay },
@@ -124,7 +124,7 @@ pub extern "C" fn pave_quad_area(
     dx: f64,
     dy: f64,
 ) -> f64
-    ensures { result ≡ geometryMeasures.quad_area (point ax ay) (point bx by) (point cx cy) (point dx dy) }
+    ensures { result ≡ geometry_measures.quad_area (point ax ay) (point bx by) (point cx cy) (point dx dy) }
 {
     geometry::quad_area(
         Point { x: ax, y: ay },
@@ -137,7 +137,7 @@ pub extern "C" fn pave_quad_area(
 // The signed area of a ring.
 #[unsafe(no_mangle)]
 pub extern "C" fn pave_signed_area(points: &[f64]) -> f64
-    ensures { result ≡ geometryMeasures.signed_area (ring points.now) }
+    ensures { result ≡ geometry_measures.signed_area (ring points.now) }
 {
     geometry::signed_area(points, points.len() / 2)
 }
@@ -145,7 +145,7 @@ pub extern "C" fn pave_signed_area(points: &[f64]) -> f64
 // Whether (x, y) is within a ring.
 #[unsafe(no_mangle)]
 pub extern "C" fn pave_in_polygon(x: f64, y: f64, points: &[f64]) -> bool
-    ensures { result ≡ geometryMeasures.in_polygon (point x y) (ring points.now) }
+    ensures { result ≡ geometry_measures.in_polygon (point x y) (ring points.now) }
 {
     geometry::in_polygon(Point { x, y }, points, points.len() / 2)
 }

@@ -110,6 +110,6 @@ module _ (b : Held) (sound : Sound b) (clean : Clean b) (room : Room b) (n : ℕ
   pub laid_is_lem : {P : List Float} {Q N L : List ℕ} {C : Counts} → P ≡ set (set b.points (b.counts.points * 2) p.x) (b.counts.points * 2 + 1) p.y
       → Q ≡ sets b.quads (b.counts.quads * 4) added → N ≡ replicate (length b.front_nodes) 0 → L ≡ replicate (length b.front_lengths) 0 → C ≡ counts-after
       → held P Q N L C ≡ written (laid_fan (reading b) (get_or (reading b).fronts 0 []) p)
-  laid_is_lem hP hQ hN hL hC =
+  laid_is_lem h_p h_q h_n h_l h_c =
       rw (← front_is b sound room.front n hn)
-      (same_held (hP ∙ points_field) (hQ ∙ quads_field) (hN ∙ nodes-field) (hL ∙ lengths-field) (hC ∙ counts_field))
+      (same_held (h_p ∙ points_field) (h_q ∙ quads_field) (h_n ∙ nodes-field) (h_l ∙ lengths-field) (h_c ∙ counts_field))

@@ -66,7 +66,7 @@ fn try_point(
 ) -> Centre
     requires loops_in_bounds { (sum_of loops.now * 2 ≤ length coords.now) × Squared best }
     requires by_index { (i : ℕ) → i < length nodes.now → get_or nodes.now i 0 * 2 + 1 < length points.now }
-    ensures { Squared result × ((b : fans.Box) → centred result ≡ fans.tryPoint (rings coords.now loops.now) (node_ring points.now nodes.now) b p (centred best)) }
+    ensures { Squared result × ((b : fans.Box) → centred result ≡ fans.try_point (rings coords.now loops.now) (node_ring points.now nodes.now) b p (centred best)) }
 {
     let near = best.near;
     if near < nodes.len() {
@@ -113,7 +113,7 @@ fn search_column(
 ) -> Centre
     requires i_bound { (i < 13) × (sum_of loops.now * 2 ≤ length coords.now) × Squared best }
     requires by_index { (i : ℕ) → i < length nodes.now → get_or nodes.now i 0 * 2 + 1 < length points.now }
-    ensures { Squared result × (centred result ≡ fans.searchColumn (rings coords.now loops.now) (node_ring points.now nodes.now) (boxed b) i 13 (centred best)) }
+    ensures { Squared result × (centred result ≡ fans.search_column (rings coords.now loops.now) (node_ring points.now nodes.now) (boxed b) i 13 (centred best)) }
 {
     let mut found = best;
     for j in 0..13 {
@@ -143,7 +143,7 @@ fn middle_of(b: Box) -> Centre
 fn search_grid(coords: &[f64], loops: &[u16], points: &[f64], nodes: &[u16], b: Box) -> Centre
     requires loops_in_bounds { sum_of loops.now * 2 ≤ length coords.now }
     requires by_index { (i : ℕ) → i < length nodes.now → get_or nodes.now i 0 * 2 + 1 < length points.now }
-    ensures { centred result ≡ fans.searchGrid (rings coords.now loops.now) (node_ring points.now nodes.now) (boxed b) 13 (fans.start (boxed b)) }
+    ensures { centred result ≡ fans.search_grid (rings coords.now loops.now) (node_ring points.now nodes.now) (boxed b) 13 (fans.start (boxed b)) }
 {
     let mut found = middle_of(b);
     for i in 0..13 {

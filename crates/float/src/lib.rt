@@ -1,7 +1,7 @@
 // Functions on f64 that the paving uses: what Rust's methods of f64 give, and the square root. Each takes every f64.
 ghost use Rattle.std.specs.Prelude.{◌≡◌, ◌+◌, ◌*◌, ◌/◌, ◌%◌, ◌^◌, ◌<◌, ◌≤◌, true};
 ghost use Rattle.float.specs.Helpers as helpers;
-ghost use Rattle.float.specs.Root.{root as rootOf, whole_root};
+ghost use Rattle.float.specs.Root.{root as root_of, whole_root};
 
 use near::near_digits;
 
@@ -125,7 +125,7 @@ fn normal_bits(b: u64) -> u64
 
 // `x.sqrt()`
 pub fn root(x: f64) -> f64
-    ensures { result ≡ rootOf x }
+    ensures { result ≡ root_of x }
 {
     if x > 0.0 {
         if x < 1.0 / 0.0 {

@@ -22,7 +22,7 @@ use Rattle.state.proofs.Outcomes.{gives_same, not_both, numbered_gives}
 use Rattle.input.specs.Job.{Job}
 use Rattle.planning.specs.Ring.{close, kept, unclosed, reversed, turned, loop_ring}
 use Rattle.planning.specs.Plan.{parts, planned}
-use Rattle.placing.specs.Placed.{innerPoint, innerPoints, placedOn, placed}
+use Rattle.placing.specs.Placed.{inner_point, inner_points, placed_on, placed}
 use Rattle.placing.specs.Loop.{sample_loop}
 use Rattle.sampling.specs.Sample.{empty, with_loop, sample_from, sampled}
 use Rattle.rules.specs.declared.Projection.{Projection}
@@ -95,15 +95,15 @@ loop_fit ccw r f = turned_fit ccw (ring_of (kept r r.size) (unclosed (kept r r.s
 -- ---- a loop's nodes: its points, and between them sums
 
 module _ (h margin : Float) (r : Ring) (f : RingFit r) where
-  inner_fit : (i k j : ℕ) → AllFit (innerPoints h margin r i k j)
-  unfolding innerPoints innerPoint
+  inner_fit : (i k j : ℕ) → AllFit (inner_points h margin r i k j)
+  unfolding inner_points inner_point
   inner_fit i k zero = tt
-  inner_fit i k (suc j) = fit_append (innerPoints h margin r i k j) _ (inner_fit i k j) (add-fits binary64 _ _, (add-fits binary64 _ _, tt))
+  inner_fit i k (suc j) = fit_append (inner_points h margin r i k j) _ (inner_fit i k j) (add-fits binary64 _ _, (add-fits binary64 _ _, tt))
 
   placed_fit : (k : ℕ) → AllFit (placed h margin r k)
   unfolding placed
   placed_fit zero = tt
-  placed_fit (suc k) = fit_append (placed h margin r k) _ (placed_fit k) ((f k).0, ((f k).1, inner_fit k (parts h margin r k) (placedOn h margin r k)))
+  placed_fit (suc k) = fit_append (placed h margin r k) _ (placed_fit k) ((f k).0, ((f k).1, inner_fit k (parts h margin r k) (placed_on h margin r k)))
 
 loop_gives : (h margin : Float) (before : ℕ) (ccw : Bool) (r : Ring) (out : List Float) → RingFit r → sample_loop h margin before ccw r ≡ gives out → AllFit out
 unfolding sample_loop

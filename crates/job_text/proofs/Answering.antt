@@ -22,8 +22,8 @@ use Rattle.job_text.specs.Answers.{measure_of, as_whole, loop_at, loops_from, co
 use Rattle.job_text.specs.declared.lines.Measure.{Measure}
 use Rattle.job_text.specs.declared.lines.Measure.TheVariants as measure
 use Rattle.job_text.specs.declared.loops.LoopsRead.{LoopsRead}
-use Rattle.job_text.specs.declared.loops.LoopsRead.TheVariants as loopsRead
-use Rattle.job_text.specs.declared.jobs.JobRead.TheVariants as jobRead
+use Rattle.job_text.specs.declared.loops.LoopsRead.TheVariants as loops_read
+use Rattle.job_text.specs.declared.jobs.JobRead.TheVariants as job_read
 use Rattle.job_text.proofs.Steps.{some_is}
 use Rattle.job_text.proofs.Ending.{EndOf, size_end}
 use Rattle.job_text.proofs.Points.{There, measured, not_measured}
@@ -114,7 +114,7 @@ module _ (t : List ℕ) where
           job_is = rw (le-ltb 65536 (length t) short, a.is, m.is, m.rest, b.is)
 
           module _ (c c' : List Float) (l l' : List ℕ) (r : LoopsRead) (answer : stored_in r c' l' ≡ storing (stored c l 0 0) (loops_from (drop (lf + 7) t))) where
-            pub no_loops : r ≡ loopsRead.No → read_job t ≡ none
+            pub no_loops : r ≡ loops_read.No → read_job t ≡ none
             unfolding and_then storing loops_from holes_of
             no_loops e = by holes_of refl (sym (ap (λ (q : LoopsRead). stored_in q c' l') e) ∙ answer)
               where
@@ -122,7 +122,7 @@ module _ (t : List ℕ) where
                 by none i e = job_is ∙ rw i
                 by (some hs) i e = absurd (none_some e)
 
-            pub loops_are : (pairs n : ℕ) → r ≡ loopsRead.Are pairs n → JobFound t x c l (stored c' l' pairs n)
+            pub loops_are : (pairs n : ℕ) → r ≡ loops_read.Are pairs n → JobFound t x c l (stored c' l' pairs n)
             unfolding and_then loops_from holes_of drawn
             loops_are pairs n e = by holes_of refl (sym (ap (λ (q : LoopsRead). stored_in q c' l') e) ∙ answer)
               where
@@ -133,7 +133,7 @@ module _ (t : List ℕ) where
 -- ---- and the answer
 
 module _ (t : List ℕ) (c : List Float) (l : List ℕ) where
-  pub unreadable : read_job t ≡ none → JobReadIs t c l jobRead.Unreadable
+  pub unreadable : read_job t ≡ none → JobReadIs t c l job_read.Unreadable
   unfolding answer_of
   unreadable e = record { answer = rw e; holds = λ d f m. absurd (none_some (sym e ∙ f)) }
 
@@ -146,15 +146,15 @@ module _ (t : List ℕ) (x : Float) (c : List Float) (l : List ℕ) (s : Stored)
   unfolding storing
   loops_is = ap (λ (q : Stored). q.loops) (some_is f.stores) ∙ zero-add (length (loops f.drawing))
 
-  many : too_many f.drawing ≡ true → JobReadIs t s.coords s.lengths jobRead.TooMany
+  many : too_many f.drawing ≡ true → JobReadIs t s.coords s.lengths job_read.TooMany
   unfolding answer_of
   many e = record { answer = rw (f.is, e); holds = λ d g m. absurd (true≢false (sym e ∙ ap too_many (some_is (sym f.is ∙ g)) ∙ m)) }
 
-  pub many_loops : loop_limit < s.loops → JobReadIs t s.coords s.lengths jobRead.TooMany
+  pub many_loops : loop_limit < s.loops → JobReadIs t s.coords s.lengths job_read.TooMany
   unfolding too_many
   many_loops h = many (rw (lt-ltb loop_limit (length (loops f.drawing)) (rw loops_is at h)))
 
-  pub many_pairs : pair_limit < s.pairs → JobReadIs t s.coords s.lengths jobRead.TooMany
+  pub many_pairs : pair_limit < s.pairs → JobReadIs t s.coords s.lengths job_read.TooMany
   unfolding too_many
   many_pairs h = many (rw (lt-ltb pair_limit (length (joined (loops f.drawing))) (rw total_is at h)) (or_true (ltb loop_limit (length (loops f.drawing)))))
 
@@ -174,7 +174,7 @@ module _ (t : List ℕ) (x : Float) (c : List Float) (l : List ℕ) (s : Stored)
           lengths = front_part l (map length (loops d)) s.lengths (length (loops d)) (omega arith) (sym (length-map (loops d) length)) (ap (λ (q : Stored). q.lengths) (some_is f.stores));
         }
 
-    pub job_read : JobReadIs t s.coords s.lengths (jobRead.Is x s.pairs s.loops)
+    pub job_read : JobReadIs t s.coords s.lengths (job_read.Is x s.pairs s.loops)
     unfolding answer_of
     job_read = record {
       answer = rw (f.is, not_many, f.size, total_is, loops_is);

@@ -16,7 +16,7 @@ use Rattle.job_text.specs.Answers.{place_in, measure_of, line_of}
 use Rattle.job_text.specs.declared.lines.Measure.{Measure}
 use Rattle.job_text.specs.declared.lines.Measure.TheVariants as measure
 use Rattle.job_text.specs.declared.lines.AtLine.{AtLine}
-use Rattle.job_text.specs.declared.lines.AtLine.TheVariants as atLine
+use Rattle.job_text.specs.declared.lines.AtLine.TheVariants as at_line
 use Rattle.job_text.proofs.Ending.{EndOf, end_place, place_of_end, whole_end, at_end}
 
 -- ---- a word
@@ -76,31 +76,31 @@ coordinate t at r answer = measured t at (read_whole (drop at t)) r answer (λ f
 -- ---- an `at` line, from what its parts tell
 
 module _ (t : List ℕ) (at : ℕ) where
-  pub no_at : behind at_word (drop at t) ≡ none → atLine.No ≡ line_of t (read_at (drop at t))
+  pub no_at : behind at_word (drop at t) ≡ none → at_line.No ≡ line_of t (read_at (drop at t))
   unfolding read_at and_then
   no_at e = rw e
 
   module _ (a : There at_word t at) where
-    pub no_x : read_whole (drop (at + 3) t) ≡ none → atLine.No ≡ line_of t (read_at (drop at t))
+    pub no_x : read_whole (drop (at + 3) t) ≡ none → at_line.No ≡ line_of t (read_at (drop at t))
     unfolding read_at and_then
     no_x e = rw (a.is, e)
 
     module _ {x : Float} {tab : ℕ} (m : Coordinate t (at + 3) x tab) where
-      pub no_tab : behind (9 ∷ []) (drop tab t) ≡ none → atLine.No ≡ line_of t (read_at (drop at t))
+      pub no_tab : behind (9 ∷ []) (drop tab t) ≡ none → at_line.No ≡ line_of t (read_at (drop at t))
       unfolding read_at and_then
       no_tab e = rw (a.is, m.is, m.rest, e)
 
       module _ (b : There (9 ∷ []) t tab) where
-        pub no_y : read_whole (drop (tab + 1) t) ≡ none → atLine.No ≡ line_of t (read_at (drop at t))
+        pub no_y : read_whole (drop (tab + 1) t) ≡ none → at_line.No ≡ line_of t (read_at (drop at t))
         unfolding read_at and_then
         no_y e = rw (a.is, m.is, m.rest, b.is, e)
 
         module _ {y : Float} {lf : ℕ} (n : Coordinate t (tab + 1) y lf) where
-          pub no_lf : behind (10 ∷ []) (drop lf t) ≡ none → atLine.No ≡ line_of t (read_at (drop at t))
+          pub no_lf : behind (10 ∷ []) (drop lf t) ≡ none → at_line.No ≡ line_of t (read_at (drop at t))
           unfolding read_at and_then
           no_lf e = rw (a.is, m.is, m.rest, b.is, n.is, n.rest, e)
 
-          pub at_line : There (10 ∷ []) t lf → atLine.Is x y (lf + 1) ≡ line_of t (read_at (drop at t))
+          pub at_line : There (10 ∷ []) t lf → at_line.Is x y (lf + 1) ≡ line_of t (read_at (drop at t))
           unfolding read_at and_then
           at_line e = rw (a.is, m.is, m.rest, b.is, n.is, n.rest, e.is, m.value, n.value, place_of_end t (lf + 1) e.within)
 
@@ -116,10 +116,10 @@ pub record Line (t : List ℕ) (at : ℕ) (x y : Float) (q : ℕ) : Type 0 where
   pub within : (at + 5 ≤ q) × (q ≤ length t)
 
 module _ (t : List ℕ) (at : ℕ) (r : AtLine) (answer : r ≡ line_of t (read_at (drop at t))) where
-  pub line : at ≤ length t → (x y : Float) (q : ℕ) → r ≡ atLine.Is x y q → Line t at x y q
+  pub line : at ≤ length t → (x y : Float) (q : ℕ) → r ≡ at_line.Is x y q → Line t at x y q
   line h x y q e = by (read_at (drop at t)) refl (sym answer ∙ e)
     where
-      by : (o : Option (Read Place)) → read_at (drop at t) ≡ o → line_of t o ≡ atLine.Is x y q → Line t at x y q
+      by : (o : Option (Read Place)) → read_at (drop at t) ≡ o → line_of t o ≡ at_line.Is x y q → Line t at x y q
       by none i e = let z : ◌≡◌ {A = ℕ} 0 1 = cc in absurd (omega arith)
       by (some f) i e =
           let p = end_place t at h (at_end (drop at t) i) in
@@ -128,9 +128,9 @@ module _ (t : List ℕ) (at : ℕ) (r : AtLine) (answer : r ≡ line_of t (read_
           let n : place_in t f.rest ≡ q = cc in
           record { found = f; is = i; x_is = vx; y_is = vy; rest = rw n at p.2; within = (omega arith, omega arith) }
 
-  pub no_line : r ≡ atLine.No → read_at (drop at t) ≡ none
+  pub no_line : r ≡ at_line.No → read_at (drop at t) ≡ none
   no_line e = by (read_at (drop at t)) refl (sym answer ∙ e)
     where
-      by : (o : Option (Read Place)) → read_at (drop at t) ≡ o → line_of t o ≡ atLine.No → read_at (drop at t) ≡ none
+      by : (o : Option (Read Place)) → read_at (drop at t) ≡ o → line_of t o ≡ at_line.No → read_at (drop at t) ≡ none
       by none i e = i
       by (some f) i e = let z : ◌≡◌ {A = ℕ} 0 1 = cc in absurd (omega arith)

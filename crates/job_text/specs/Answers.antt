@@ -11,12 +11,12 @@ use Rattle.job_text.specs.Reading.{Read, read, and_then, read_loop, read_holes, 
 use Rattle.job_text.specs.declared.lines.Measure.{Measure}
 use Rattle.job_text.specs.declared.lines.Measure.TheVariants as measure
 use Rattle.job_text.specs.declared.lines.AtLine.{AtLine}
-use Rattle.job_text.specs.declared.lines.AtLine.TheVariants as atLine
+use Rattle.job_text.specs.declared.lines.AtLine.TheVariants as at_line
 use Rattle.job_text.specs.declared.loops.LoopRead.{LoopRead}
 use Rattle.job_text.specs.declared.loops.LoopsRead.{LoopsRead}
-use Rattle.job_text.specs.declared.loops.LoopsRead.TheVariants as loopsRead
+use Rattle.job_text.specs.declared.loops.LoopsRead.TheVariants as loops_read
 use Rattle.job_text.specs.declared.jobs.JobRead.{JobRead}
-use Rattle.job_text.specs.declared.jobs.JobRead.TheVariants as jobRead
+use Rattle.job_text.specs.declared.jobs.JobRead.TheVariants as job_read
 
 -- ---- the whole text
 
@@ -26,8 +26,8 @@ too_many d = ltb loop_limit (length (loops d)) || ltb pair_limit (length (joined
 
 -- no job; too many; or the size, and how many pairs and loops there are
 unfoldable pub answer_of : Option Drawing → JobRead
-answer_of none = jobRead.Unreadable
-answer_of (some d) = cond (too_many d) jobRead.TooMany (jobRead.Is (of_int binary64 (pos d.size)) (length (joined (loops d))) (length (loops d)))
+answer_of none = job_read.Unreadable
+answer_of (some d) = cond (too_many d) job_read.TooMany (job_read.Is (of_int binary64 (pos d.size)) (length (joined (loops d))) (length (loops d)))
 
 -- the buffers begin with the job's coordinates and its loop lengths
 pub record Holds (d : Drawing) (c : List Float) (l : List ℕ) : Type 0 where
@@ -55,8 +55,8 @@ as_whole none = none
 as_whole (some r) = some (read (pos r.value) r.rest)
 
 abbrev pub line_of : List ℕ → Option (Read Place) → AtLine
-line_of t none = atLine.No
-line_of t (some r) = atLine.Is (of_int binary64 r.value.x) (of_int binary64 r.value.y) (place_in t r.rest)
+line_of t none = at_line.No
+line_of t (some r) = at_line.Is (of_int binary64 r.value.x) (of_int binary64 r.value.y) (place_in t r.rest)
 
 -- ---- loops
 
@@ -99,5 +99,5 @@ storing s (some ls) =
     (stored (sets s.coords (s.pairs * 2) (coordinates_of (joined ls))) (sets s.lengths s.loops (map length ls)) (s.pairs + length (joined ls)) (s.loops + length ls))
 
 abbrev pub stored_in : LoopsRead → List Float → List ℕ → Option Stored
-stored_in loopsRead.No c l = none
-stored_in (loopsRead.Are pairs loops) c l = some (stored c l pairs loops)
+stored_in loops_read.No c l = none
+stored_in (loops_read.Are pairs loops) c l = some (stored c l pairs loops)

@@ -11,7 +11,7 @@ use Rattle.pairs.proofs.Sums.{sum_none}
 use Rattle.pairs.proofs.Occurs.{occurs, occurs_here, occurs_once}
 use Rattle.pairs.proofs.Sides.{pair_cases, pair_flip, next_below}
 
-module _ (xs : List ℕ) (one : (c : ℕ) → occurs c xs ≤ 1) (u v : ℕ) (inU : u < length xs) (inV : v < length xs) (apartUV : next (length xs) u ≡ v → ⊥) (apartVU : next (length xs) v ≡ u → ⊥) where
+module _ (xs : List ℕ) (one : (c : ℕ) → occurs c xs ≤ 1) (u v : ℕ) (in_u : u < length xs) (in_v : v < length xs) (apart_u_v : next (length xs) u ≡ v → ⊥) (apart_v_u : next (length xs) v ≡ u → ⊥) where
   abbrev at : ℕ → ℕ
   at i = get_or xs i 0
 
@@ -26,13 +26,13 @@ module _ (xs : List ℕ) (one : (c : ℕ) → occurs c xs ≤ 1) (u v : ℕ) (in
   no_side a b i l e =
       elim (pair_cases a b (at i) (at (next n i))) [
         | inl h ↦
-            let x : u ≡ i = place u i inU l (sym e.0 ∙ h.0) in
-            let y : v ≡ next n i = place v (next n i) inV (next_below n i l) (sym e.1 ∙ h.1) in
-            absurd (apartUV (ap (next n) x ∙ sym y))
+            let x : u ≡ i = place u i in_u l (sym e.0 ∙ h.0) in
+            let y : v ≡ next n i = place v (next n i) in_v (next_below n i l) (sym e.1 ∙ h.1) in
+            absurd (apart_u_v (ap (next n) x ∙ sym y))
         | inr (inl h) ↦
-            let x : v ≡ i = place v i inV l (sym e.1 ∙ h.1) in
-            let y : u ≡ next n i = place u (next n i) inU (next_below n i l) (sym e.0 ∙ h.0) in
-            absurd (apartVU (ap (next n) x ∙ sym y))
+            let x : v ≡ i = place v i in_v l (sym e.1 ∙ h.1) in
+            let y : u ≡ next n i = place u (next n i) in_u (next_below n i l) (sym e.0 ∙ h.0) in
+            absurd (apart_v_u (ap (next n) x ∙ sym y))
         | inr (inr h) ↦ h
       ]
 
@@ -46,6 +46,6 @@ module _ (xs : List ℕ) (one : (c : ℕ) → occurs c xs ≤ 1) (u v : ℕ) (in
 
       go : ((a ≡ at u) × (b ≡ at v) × (is_pair a b (at u) (at v) ≡ 1)) ⊎ (((a ≡ at v) × (b ≡ at u) × (is_pair a b (at u) (at v) ≡ 1)) ⊎ (is_pair a b (at u) (at v) ≡ 0))
           → (sides a b xs ≡ 0) × (0 < occurs a xs) × (0 < occurs b xs)
-      go (inl g) = (sum_none _ n (λ i l. no_side a b i l (g.0, g.1)), found a u inU g.0, found b v inV g.1)
-      go (inr (inl g)) = (sum_none _ n (λ i l. pair_flip a b _ _ ∙ no_side b a i l (g.1, g.0)), found a v inV g.0, found b u inU g.1)
+      go (inl g) = (sum_none _ n (λ i l. no_side a b i l (g.0, g.1)), found a u in_u g.0, found b v in_v g.1)
+      go (inr (inl g)) = (sum_none _ n (λ i l. pair_flip a b _ _ ∙ no_side b a i l (g.1, g.0)), found a v in_v g.0, found b u in_u g.1)
       go (inr (inr g)) = absurd (omega arith)

@@ -23,7 +23,7 @@ use Rattle.job_text.specs.Drawing.{Place, Drawing, loops, job_of}
 use Rattle.job_text.specs.Reading.{read_job}
 use Rattle.job_text.specs.Answers.{too_many, JobReadIs}
 use Rattle.job_text.specs.declared.jobs.JobRead.{JobRead}
-use Rattle.job_text.specs.declared.jobs.JobRead.TheVariants as jobRead
+use Rattle.job_text.specs.declared.jobs.JobRead.TheVariants as job_read
 use Rattle.job_text.proofs.Storing.{length-coordinates}
 use Rattle.job_text.proofs.Callers.{JobIs, job_is, too_many_is, unreadable_is}
 use Rattle.captions.specs.Captions.{words_text}
@@ -59,15 +59,15 @@ unfolding draw_text Option-elim job_of
 drawing_is t coords ns size d i m h c l = rw (i, m, h, c, l)
 
 module _ (t : List ℕ) (c : List Float) (l : List ℕ) (r : JobRead) (is : JobReadIs t c l r) where
-  pub no_job : r ≡ jobRead.Unreadable → words_text 11 ≡ draw_text t
+  pub no_job : r ≡ job_read.Unreadable → words_text 11 ≡ draw_text t
   unfolding draw_text Option-elim
   no_job e = let n = unreadable_is t c l (rw e at is) in rw n
 
-  pub many_job : r ≡ jobRead.TooMany → words_text 1 ≡ draw_text t
+  pub many_job : r ≡ job_read.TooMany → words_text 1 ≡ draw_text t
   unfolding draw_text Option-elim
   many_job e = let m = too_many_is t c l (rw e at is) in rw (m.1, m.2)
 
-  module _ (size : Float) (pairs n : ℕ) (e : r ≡ jobRead.Is size pairs n) where
+  module _ (size : Float) (pairs n : ℕ) (e : r ≡ job_read.Is size pairs n) where
     pub found : JobIs t c l size pairs n
     found = job_is t c l size pairs n (rw e at is)
 

@@ -11,7 +11,7 @@ use Rattle.geometry.specs.Rings.{Ring}
 use Rattle.state.specs.Limits.{front_node_limit}
 use Rattle.state.specs.Outcome.{Outcome, refused, gives, first_true, test, outcome}
 use Rattle.planning.specs.Ring.{loop_ring}
-use Rattle.planning.specs.Plan.{inner, innerSum, longest, total, planned, parts}
+use Rattle.planning.specs.Plan.{inner, inner_sum, longest, total, planned, parts}
 use Rattle.placing.specs.declared.one_loop.Made.{Made}
 use Rattle.placing.specs.Loop.{sample_loop}
 use Rattle.placing.specs.Placing.{MadeIs, placed_outcome}
@@ -44,18 +44,18 @@ module _ {A : Type 0} (x l : ℕ) (out : A) where
 
 -- ---- the plan
 
-module _ (h cornerMargin : Float) (r : Ring) where
+module _ (h corner_margin : Float) (r : Ring) where
   -- the capped sum refuses just what the sum refuses, and is the sum when it does not
-  pub over : (before t : ℕ) → t ≡ r.size + min (innerSum h cornerMargin r r.size) 2049 → front_node_limit < before + (t + t % 2) → front_node_limit < before + planned h cornerMargin r
+  pub over : (before t : ℕ) → t ≡ r.size + min (inner_sum h corner_margin r r.size) 2049 → front_node_limit < before + (t + t % 2) → front_node_limit < before + planned h corner_margin r
   unfolding planned total
-  over before t e g = go before t r.size (innerSum h cornerMargin r r.size) e g
+  over before t e g = go before t r.size (inner_sum h corner_margin r r.size) e g
     where
       go : (b t n s : ℕ) → t ≡ n + min s 2049 → front_node_limit < b + (t + t % 2) → front_node_limit < b + (n + s + (n + s) % 2)
       go b t n s e g = omega arith
 
-  pub within_is : (before t : ℕ) → t ≡ r.size + min (innerSum h cornerMargin r r.size) 2049 → before + (t + t % 2) ≤ front_node_limit → (t ≡ total h cornerMargin r) × (t + t % 2 ≡ planned h cornerMargin r)
+  pub within_is : (before t : ℕ) → t ≡ r.size + min (inner_sum h corner_margin r r.size) 2049 → before + (t + t % 2) ≤ front_node_limit → (t ≡ total h corner_margin r) × (t + t % 2 ≡ planned h corner_margin r)
   unfolding planned total
-  within_is before t e g = let s = go before t r.size (innerSum h cornerMargin r r.size) e g in (s, ap (λ (n : ℕ). n + n % 2) s)
+  within_is before t e g = let s = go before t r.size (inner_sum h corner_margin r r.size) e g in (s, ap (λ (n : ℕ). n + n % 2) s)
     where
       go : (b t n s : ℕ) → t ≡ n + min s 2049 → b + (t + t % 2) ≤ front_node_limit → t ≡ n + s
       go b t n s e g = omega arith
@@ -67,22 +67,22 @@ module _ (h cornerMargin : Float) (r : Ring) where
       clash : (i n : ℕ) → i < n → i ≡ n → ⊥
       clash i n h e = omega arith
 
-  pub parts_are : (t best longer : ℕ) → t ≡ total h cornerMargin r → best ≡ (longest h cornerMargin r r.size).0 → longer ≡ cond (eqb (t % 2) 1) best r.size
-      → (i : ℕ) → i < r.size → parts h cornerMargin r i ≡ inner h cornerMargin r i + cond (eqb i longer) 1 0
+  pub parts_are : (t best longer : ℕ) → t ≡ total h corner_margin r → best ≡ (longest h corner_margin r r.size).0 → longer ≡ cond (eqb (t % 2) 1) best r.size
+      → (i : ℕ) → i < r.size → parts h corner_margin r i ≡ inner h corner_margin r i + cond (eqb i longer) 1 0
   unfolding parts
-  parts_are t best longer ht hb hl i g = rw (← ht, ← hb, hl) (ap (λ (n : ℕ). inner h cornerMargin r i + n) (added_to (eqb (t % 2) 1) i best r.size g))
+  parts_are t best longer ht hb hl i g = rw (← ht, ← hb, hl) (ap (λ (n : ℕ). inner h corner_margin r i + n) (added_to (eqb (t % 2) 1) i best r.size g))
 
 -- ---- the loop
 
-module _ (h cornerMargin : Float) (before : ℕ) (ccw : Bool) (given r : Ring) (e : loop_ring ccw given ≡ r) where
-  pub seven : r.size < 3 → sample_loop h cornerMargin before ccw given ≡ refused 7
+module _ (h corner_margin : Float) (before : ℕ) (ccw : Bool) (given r : Ring) (e : loop_ring ccw given ≡ r) where
+  pub seven : r.size < 3 → sample_loop h corner_margin before ccw given ≡ refused 7
   unfolding sample_loop first_true
   seven g = rw (e, lt-ltb r.size 3 g)
 
-  not_seven : 3 ≤ r.size → sample_loop h cornerMargin before ccw given ≡ placed_outcome h cornerMargin before r
+  not_seven : 3 ≤ r.size → sample_loop h corner_margin before ccw given ≡ placed_outcome h corner_margin before r
   unfolding sample_loop first_true
   not_seven g = rw (e, le-ltb r.size 3 g)
 
-  pub of_loop : (at : ℕ) (entry exit : List Float) (made : Made) → 3 ≤ r.size → MadeIs h cornerMargin r before at entry exit (placed_outcome h cornerMargin before r) made
-      → MadeIs h cornerMargin (loop_ring ccw given) before at entry exit (sample_loop h cornerMargin before ccw given) made
+  pub of_loop : (at : ℕ) (entry exit : List Float) (made : Made) → 3 ≤ r.size → MadeIs h corner_margin r before at entry exit (placed_outcome h corner_margin before r) made
+      → MadeIs h corner_margin (loop_ring ccw given) before at entry exit (sample_loop h corner_margin before ccw given) made
   of_loop at entry exit made g w = rw (not_seven g, e) w

@@ -14,8 +14,8 @@ use borrow.Author.Tests.{lt-ltb, le-ltb, ltb-true, ltb-false, eqb-true, eqb-fals
 use Rattle.float.specs.Helpers.{decimal}
 use Rattle.geometry.specs.declared.Point.{Point}
 use Rattle.geometry.specs.Rings.{Ring, next}
-use Rattle.planning.specs.Plan.{margin, side_at, span, inner, innerSum, longest, total, planned, parts}
-use Rattle.placing.specs.Placed.{innerPoint, innerPoints, placedOn, placed}
+use Rattle.planning.specs.Plan.{margin, side_at, span, inner, inner_sum, longest, total, planned, parts}
+use Rattle.placing.specs.Placed.{inner_point, inner_points, placed_on, placed}
 use Rattle.placing.specs.Placing.{between, betweens}
 use Rattle.state.proofs.Stores.{sets-append, point-behind}
 
@@ -40,78 +40,78 @@ module _ (a b : Point) (l m s : Float) (k : ℕ) where
       place : (at j : ℕ) → (at + j) * 2 ≡ at * 2 + j * 2
       place at j = omega arith
 
-module _ (h cornerMargin : Float) (r : Ring) where
-  same_inner : (i k j : ℕ) → innerPoints h cornerMargin r i k j ≡ betweens (r.at i) (r.at (next r.size i)) (side_at r i) (margin h cornerMargin r i) (span h cornerMargin r i) k j
-  unfolding innerPoints innerPoint betweens
+module _ (h corner_margin : Float) (r : Ring) where
+  same_inner : (i k j : ℕ) → inner_points h corner_margin r i k j ≡ betweens (r.at i) (r.at (next r.size i)) (side_at r i) (margin h corner_margin r i) (span h corner_margin r i) k j
+  unfolding inner_points inner_point betweens
   same_inner i k zero = refl
   same_inner i k (suc j) =
-      ap (λ (t : List Float). t ++ ((between (r.at i) (r.at (next r.size i)) (side_at r i) (margin h cornerMargin r i) (span h cornerMargin r i) k j).x ∷ (between (r.at i) (r.at (next r.size i)) (side_at r i) (margin h cornerMargin r i) (span h cornerMargin r i) k j).y ∷ [])) (same_inner i k j)
+      ap (λ (t : List Float). t ++ ((between (r.at i) (r.at (next r.size i)) (side_at r i) (margin h corner_margin r i) (span h corner_margin r i) k j).x ∷ (between (r.at i) (r.at (next r.size i)) (side_at r i) (margin h corner_margin r i) (span h corner_margin r i) k j).y ∷ [])) (same_inner i k j)
 
-  length_inner : (i k j : ℕ) → length (innerPoints h cornerMargin r i k j) ≡ j * 2
+  length_inner : (i k j : ℕ) → length (inner_points h corner_margin r i k j) ≡ j * 2
   length_inner i k j = ap length (same_inner i k j) ∙ length_betweens _ _ _ _ _ k j
 
   -- ---- one side
 
-  abbrev sideNodes : ℕ → List Float
-  sideNodes i = (r.at i).x ∷ (r.at i).y ∷ innerPoints h cornerMargin r i (parts h cornerMargin r i) (placedOn h cornerMargin r i)
+  abbrev side_nodes : ℕ → List Float
+  side_nodes i = (r.at i).x ∷ (r.at i).y ∷ inner_points h corner_margin r i (parts h corner_margin r i) (placed_on h corner_margin r i)
 
   -- a side of length at most 1e-12: its start alone
   pub short_side : (i at : ℕ) (l : Float) (a : Point) (d p : List Float) → l ≡ side_at r i → le l (decimal 1 12) ≡ true → a ≡ r.at i
-      → p ≡ set (set d (at * 2) a.x) (at * 2 + 1) a.y → (1 ≡ placedOn h cornerMargin r i + 1) × (p ≡ sets d (at * 2) (sideNodes i))
-  unfolding placedOn innerPoints
+      → p ≡ set (set d (at * 2) a.x) (at * 2 + 1) a.y → (1 ≡ placed_on h corner_margin r i + 1) × (p ≡ sets d (at * 2) (side_nodes i))
+  unfolding placed_on inner_points
   short_side i at l a d p hl hs ha hp = rw (← hl, hs, ← ha) (refl, hp ∙ rw add-one)
 
   -- one that gets no inner points
-  pub bare_side : (i at k : ℕ) (l : Float) (a : Point) (d p : List Float) → l ≡ side_at r i → le l (decimal 1 12) ≡ false → k ≡ parts h cornerMargin r i → k ≡ 0 → a ≡ r.at i
-      → p ≡ set (set d (at * 2) a.x) (at * 2 + 1) a.y → (1 ≡ placedOn h cornerMargin r i + 1) × (p ≡ sets d (at * 2) (sideNodes i))
-  unfolding placedOn innerPoints
+  pub bare_side : (i at k : ℕ) (l : Float) (a : Point) (d p : List Float) → l ≡ side_at r i → le l (decimal 1 12) ≡ false → k ≡ parts h corner_margin r i → k ≡ 0 → a ≡ r.at i
+      → p ≡ set (set d (at * 2) a.x) (at * 2 + 1) a.y → (1 ≡ placed_on h corner_margin r i + 1) × (p ≡ sets d (at * 2) (side_nodes i))
+  unfolding placed_on inner_points
   bare_side i at k l a d p hl hs hk hz ha hp = rw (← hl, hs, ← hk, hz, ← ha) (refl, hp ∙ rw add-one)
 
   -- any other: its start and its inner points
   pub long_side : (i j at k : ℕ) (l m s : Float) (a b : Point) (d p p' : List Float) → l ≡ side_at r i → le l (decimal 1 12) ≡ false → j ≡ next r.size i → a ≡ r.at i → b ≡ r.at j
-      → m ≡ margin h cornerMargin r i → s ≡ span h cornerMargin r i → k ≡ parts h cornerMargin r i
+      → m ≡ margin h corner_margin r i → s ≡ span h corner_margin r i → k ≡ parts h corner_margin r i
       → p ≡ set (set d (at * 2) a.x) (at * 2 + 1) a.y → p' ≡ sets p ((at + 1) * 2) (betweens a b l m s k k)
-      → (k + 1 ≡ placedOn h cornerMargin r i + 1) × (p' ≡ sets d (at * 2) (sideNodes i))
-  unfolding placedOn
+      → (k + 1 ≡ placed_on h corner_margin r i + 1) × (p' ≡ sets d (at * 2) (side_nodes i))
+  unfolding placed_on
   long_side i j at k l m s a b d p p' hl hf hj ha hb hm hs hk hp hp' =
-      let w = betweens (r.at i) (r.at (next r.size i)) (side_at r i) (margin h cornerMargin r i) (span h cornerMargin r i) (parts h cornerMargin r i) (parts h cornerMargin r i) in
+      let w = betweens (r.at i) (r.at (next r.size i)) (side_at r i) (margin h corner_margin r i) (span h corner_margin r i) (parts h corner_margin r i) (parts h corner_margin r i) in
       let g : le (side_at r i) (decimal 1 12) ≡ false = rw hl at hf in
       let e : p' ≡ sets (set (set d (at * 2) (r.at i).x) (suc (at * 2)) (r.at i).y) (suc (suc (at * 2))) w =
       hp' ∙ rw (hp, hl, hm, hs, hk, ha, hb, hj, add-one (at * 2), second at) in
-      rw g (ap (λ (n : ℕ). n + 1) hk, e ∙ ap (λ (v : List Float). sets d (at * 2) ((r.at i).x ∷ (r.at i).y ∷ v)) (sym (same_inner i (parts h cornerMargin r i) (parts h cornerMargin r i))))
+      rw g (ap (λ (n : ℕ). n + 1) hk, e ∙ ap (λ (v : List Float). sets d (at * 2) ((r.at i).x ∷ (r.at i).y ∷ v)) (sym (same_inner i (parts h corner_margin r i) (parts h corner_margin r i))))
     where
       second : (at : ℕ) → (at + 1) * 2 ≡ suc (suc (at * 2))
       second at = omega arith
 
   -- ---- the sides so far, and one more
 
-  pub placed_step : (i at n : ℕ) (d p p' : List Float) → n * 2 ≡ length (placed h cornerMargin r i) → p ≡ sets d (at * 2) (placed h cornerMargin r i) → p' ≡ sets p ((at + n) * 2) (sideNodes i)
-      → p' ≡ sets d (at * 2) (placed h cornerMargin r (i + 1))
+  pub placed_step : (i at n : ℕ) (d p p' : List Float) → n * 2 ≡ length (placed h corner_margin r i) → p ≡ sets d (at * 2) (placed h corner_margin r i) → p' ≡ sets p ((at + n) * 2) (side_nodes i)
+      → p' ≡ sets d (at * 2) (placed h corner_margin r (i + 1))
   unfolding placed
   placed_step i at n d p p' hn hp hp' =
-      rw add-one (hp' ∙ rw (hp, place at n (length (placed h cornerMargin r i)) hn) (sym (sets-append (placed h cornerMargin r i) (sideNodes i) d (at * 2))))
+      rw add-one (hp' ∙ rw (hp, place at n (length (placed h corner_margin r i)) hn) (sym (sets-append (placed h corner_margin r i) (side_nodes i) d (at * 2))))
     where
       place : (at n l : ℕ) → n * 2 ≡ l → (at + n) * 2 ≡ at * 2 + l
       place at n l e = omega arith
 
-  length_placed : (i : ℕ) → length (placed h cornerMargin r (suc i)) ≡ length (placed h cornerMargin r i) + (placedOn h cornerMargin r i + 1) * 2
+  length_placed : (i : ℕ) → length (placed h corner_margin r (suc i)) ≡ length (placed h corner_margin r i) + (placed_on h corner_margin r i + 1) * 2
   unfolding placed
-  length_placed i = length-append (placed h cornerMargin r i) (sideNodes i) ∙ ap (λ (n : ℕ). length (placed h cornerMargin r i) + suc (suc n)) (length_inner i (parts h cornerMargin r i) (placedOn h cornerMargin r i)) ∙ sum (length (placed h cornerMargin r i)) (placedOn h cornerMargin r i)
+  length_placed i = length-append (placed h corner_margin r i) (side_nodes i) ∙ ap (λ (n : ℕ). length (placed h corner_margin r i) + suc (suc n)) (length_inner i (parts h corner_margin r i) (placed_on h corner_margin r i)) ∙ sum (length (placed h corner_margin r i)) (placed_on h corner_margin r i)
     where
       sum : (l k : ℕ) → l + suc (suc (k * 2)) ≡ l + (k + 1) * 2
       sum l k = omega arith
 
-  pub count_step : (i n more : ℕ) → n * 2 ≡ length (placed h cornerMargin r i) → more ≡ placedOn h cornerMargin r i + 1 → (n + more) * 2 ≡ length (placed h cornerMargin r (i + 1))
-  count_step i n more e f = rw add-one (sum n more (length (placed h cornerMargin r i)) (placedOn h cornerMargin r i) e f ∙ sym (length_placed i))
+  pub count_step : (i n more : ℕ) → n * 2 ≡ length (placed h corner_margin r i) → more ≡ placed_on h corner_margin r i + 1 → (n + more) * 2 ≡ length (placed h corner_margin r (i + 1))
+  count_step i n more e f = rw add-one (sum n more (length (placed h corner_margin r i)) (placed_on h corner_margin r i) e f ∙ sym (length_placed i))
     where
       sum : (n m l k : ℕ) → n * 2 ≡ l → m ≡ k + 1 → (n + m) * 2 ≡ l + (k + 1) * 2
       sum n m l k e f = omega arith
 
   -- ---- no more nodes are placed than planned
 
-  pub placed_few : (i : ℕ) → placedOn h cornerMargin r i ≤ parts h cornerMargin r i
-  unfolding placedOn
-  placed_few i = go (le (side_at r i) (decimal 1 12)) (parts h cornerMargin r i)
+  pub placed_few : (i : ℕ) → placed_on h corner_margin r i ≤ parts h corner_margin r i
+  unfolding placed_on
+  placed_few i = go (le (side_at r i) (decimal 1 12)) (parts h corner_margin r i)
     where
       go : (b : Bool) (k : ℕ) → cond b 0 k ≤ k
       go true k = omega arith
@@ -119,14 +119,14 @@ module _ (h cornerMargin : Float) (r : Ring) where
 
   -- the added inner points of the first i sides
   abbrev odd : Bool
-  odd = eqb (total h cornerMargin r % 2) 1
+  odd = eqb (total h corner_margin r % 2) 1
 
   abbrev best : ℕ
-  best = (longest h cornerMargin r r.size).0
+  best = (longest h corner_margin r r.size).0
 
   parts_sum : ℕ → ℕ
   parts_sum zero = 0
-  parts_sum (suc i) = parts_sum i + parts h cornerMargin r i
+  parts_sum (suc i) = parts_sum i + parts h corner_margin r i
 
   one_more : (b : Bool) (i k : ℕ) → cond (b && ltb k i) 1 0 + cond (b && eqb i k) 1 0 ≡ cond (b && ltb k (suc i)) 1 0
   one_more false i k = refl
@@ -150,8 +150,8 @@ module _ (h cornerMargin : Float) (r : Ring) where
           more : i ≤ k → (i ≡ k → ⊥) → suc i ≤ k
           more p q = omega (arith, q)
 
-  parts-sum : (i : ℕ) → parts_sum i ≡ innerSum h cornerMargin r i + cond (odd && ltb best i) 1 0
-  unfolding parts_sum parts innerSum
+  parts-sum : (i : ℕ) → parts_sum i ≡ inner_sum h corner_margin r i + cond (odd && ltb best i) 1 0
+  unfolding parts_sum parts inner_sum
   parts-sum zero = rw (none odd (ltb best 0) (le-ltb best 0 (low best)))
     where
       low : (n : ℕ) → 0 ≤ n
@@ -161,26 +161,26 @@ module _ (h cornerMargin : Float) (r : Ring) where
       none true b e = e
       none false b e = refl
   parts-sum (suc i) =
-      ap (λ (n : ℕ). n + (inner h cornerMargin r i + cond (odd && eqb i best) 1 0)) (parts-sum i)
-      ∙ move (innerSum h cornerMargin r i) (cond (odd && ltb best i) 1 0) (inner h cornerMargin r i) (cond (odd && eqb i best) 1 0)
-      ∙ ap (λ (n : ℕ). innerSum h cornerMargin r i + inner h cornerMargin r i + n) (one_more odd i best)
+      ap (λ (n : ℕ). n + (inner h corner_margin r i + cond (odd && eqb i best) 1 0)) (parts-sum i)
+      ∙ move (inner_sum h corner_margin r i) (cond (odd && ltb best i) 1 0) (inner h corner_margin r i) (cond (odd && eqb i best) 1 0)
+      ∙ ap (λ (n : ℕ). inner_sum h corner_margin r i + inner h corner_margin r i + n) (one_more odd i best)
     where
       move : (s c k d : ℕ) → s + c + (k + d) ≡ s + k + (c + d)
       move s c k d = omega arith
 
-  mono : (i d : ℕ) → innerSum h cornerMargin r i ≤ innerSum h cornerMargin r (i + d)
-  unfolding innerSum
-  mono i zero = rw (add-zero i) (low (innerSum h cornerMargin r i))
+  mono : (i d : ℕ) → inner_sum h corner_margin r i ≤ inner_sum h corner_margin r (i + d)
+  unfolding inner_sum
+  mono i zero = rw (add-zero i) (low (inner_sum h corner_margin r i))
     where
       low : (n : ℕ) → n ≤ n
       low n = omega arith
-  mono i (suc d) = rw (add-suc i d) (more (innerSum h cornerMargin r i) (innerSum h cornerMargin r (i + d)) (inner h cornerMargin r (i + d)) (mono i d))
+  mono i (suc d) = rw (add-suc i d) (more (inner_sum h corner_margin r i) (inner_sum h corner_margin r (i + d)) (inner h corner_margin r (i + d)) (mono i d))
     where
       more : (a b c : ℕ) → a ≤ b → a ≤ b + c
       more a b c p = omega arith
 
-  added : (b : Bool) → cond (odd && b) 1 0 ≤ total h cornerMargin r % 2
-  added b = go (total h cornerMargin r % 2) odd refl b
+  added : (b : Bool) → cond (odd && b) 1 0 ≤ total h corner_margin r % 2
+  added b = go (total h corner_margin r % 2) odd refl b
     where
       go : (m : ℕ) (s : Bool) → eqb m 1 ≡ s → (b : Bool) → cond (s && b) 1 0 ≤ m
       go m true e true = one m (eqb-true m 1 e)
@@ -190,23 +190,23 @@ module _ (h cornerMargin : Float) (r : Ring) where
       go m true e false = omega arith
       go m false e b = omega arith
 
-  length_few : (i : ℕ) → length (placed h cornerMargin r i) ≤ (i + parts_sum i) * 2
+  length_few : (i : ℕ) → length (placed h corner_margin r i) ≤ (i + parts_sum i) * 2
   unfolding parts_sum
   length_few zero = unfold placed in low (parts_sum 0)
     where
       low : (n : ℕ) → 0 ≤ (0 + n) * 2
       low n = omega arith
-  length_few (suc i) = rw (length_placed i) (more (length (placed h cornerMargin r i)) (placedOn h cornerMargin r i) (parts h cornerMargin r i) i (parts_sum i) (length_few i) (placed_few i))
+  length_few (suc i) = rw (length_placed i) (more (length (placed h corner_margin r i)) (placed_on h corner_margin r i) (parts h corner_margin r i) i (parts_sum i) (length_few i) (placed_few i))
     where
       more : (l k p i s : ℕ) → l ≤ (i + s) * 2 → k ≤ p → l + (k + 1) * 2 ≤ (suc i + (s + p)) * 2
       more l k p i s e f = omega arith
 
   -- there is room for the next side
-  pub room : (i n : ℕ) → i < r.size → n * 2 ≡ length (placed h cornerMargin r i) → n + 1 + parts h cornerMargin r i ≤ planned h cornerMargin r
+  pub room : (i n : ℕ) → i < r.size → n * 2 ≡ length (placed h corner_margin r i) → n + 1 + parts h corner_margin r i ≤ planned h corner_margin r
   unfolding planned total parts_sum
   room i n l e =
       let d = r.size - suc i in
-      fits n i r.size (parts_sum i) (parts h cornerMargin r i) (innerSum h cornerMargin r (suc i)) (innerSum h cornerMargin r r.size) (cond (odd && ltb best (suc i)) 1 0) (total h cornerMargin r % 2)
+      fits n i r.size (parts_sum i) (parts h corner_margin r i) (inner_sum h corner_margin r (suc i)) (inner_sum h corner_margin r r.size) (cond (odd && ltb best (suc i)) 1 0) (total h corner_margin r % 2)
       l (le_trans (le_of_eq e) (length_few i)) (parts-sum (suc i)) (rw (back i r.size l) at (mono (suc i) d)) (added (ltb best (suc i)))
     where
       back : (i n : ℕ) → i < n → suc i + (n - suc i) ≡ n

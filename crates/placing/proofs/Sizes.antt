@@ -27,7 +27,7 @@ use Rattle.state.proofs.Basics.{or_false}
 use Rattle.state.proofs.Outcomes.{first_none, numbered_gives}
 use Rattle.planning.specs.Ring.{close, kept, unclosed, reversed, turned, loop_ring}
 use Rattle.planning.specs.Plan.{side_at, margin, span, planned, parts}
-use Rattle.placing.specs.Placed.{innerPoint, innerPoints, placedOn, placed}
+use Rattle.placing.specs.Placed.{inner_point, inner_points, placed_on, placed}
 use Rattle.placing.specs.Loop.{sample_loop}
 use Rattle.placing.proofs.Placing.{count_step, room}
 
@@ -69,21 +69,21 @@ ring_within n ccw r h = go (beq (lt (decimal 0 0) (signed_area given)) ccw)
     go false = λ i l. here (unclosed q (length q / 2) - 1 - i) (omega arith)
 
 -- ---- a side's nodes
-module _ (h cornerMargin : Float) (r : Ring) (hw : Within 1000000 h) (hc : T (clear h)) (cw : Within 100 cornerMargin) (cn : NotNegative cornerMargin) (ring : RingWithin 1000000 r) where
-  margin_within : (i : ℕ) → Within 100000000 (margin h cornerMargin r i)
+module _ (h corner_margin : Float) (r : Ring) (hw : Within 1000000 h) (hc : T (clear h)) (cw : Within 100 corner_margin) (cn : NotNegative corner_margin) (ring : RingWithin 1000000 r) where
+  margin_within : (i : ℕ) → Within 100000000 (margin h corner_margin r i)
   unfolding margin
   margin_within i = go (sharp_at r i)
     where
-      go : (b : Bool) → Within 100000000 (cond b (cornerMargin ⊗ h) (decimal 0 0))
-      go true = mul_within cornerMargin h 100 1000000 100000000 (lit≤ tt) (lit≤ tt) cw hw
+      go : (b : Bool) → Within 100000000 (cond b (corner_margin ⊗ h) (decimal 0 0))
+      go true = mul_within corner_margin h 100 1000000 100000000 (lit≤ tt) (lit≤ tt) cw hw
       go false = round_under false 0 1 100000000 1 (lit< tt) (lit< tt) (whole_exact 100000000 (lit≤ tt)) (lit≤ tt)
 
-  margin_not_negative : (i : ℕ) → NotNegative (margin h cornerMargin r i)
+  margin_not_negative : (i : ℕ) → NotNegative (margin h corner_margin r i)
   unfolding margin
   margin_not_negative i = go (sharp_at r i)
     where
-      go : (b : Bool) → NotNegative (cond b (cornerMargin ⊗ h) (decimal 0 0))
-      go true = elim cn [ inl c ↦ inl (clear_mul cornerMargin h c hc) | inr z ↦ inr (mul_within cornerMargin h 0 1000000 0 (lit≤ tt) (lit≤ tt) z hw) ]
+      go : (b : Bool) → NotNegative (cond b (corner_margin ⊗ h) (decimal 0 0))
+      go true = elim cn [ inl c ↦ inl (clear_mul corner_margin h c hc) | inr z ↦ inr (mul_within corner_margin h 0 1000000 0 (lit≤ tt) (lit≤ tt) z hw) ]
       go false = inl (clear-round binary64 0 1)
 
   -- a side i, its ends a and b
@@ -95,10 +95,10 @@ module _ (h cornerMargin : Float) (r : Ring) (hw : Within 1000000 h) (hc : T (cl
     b = r.at (next r.size i)
 
     abbrev m : Float
-    m = margin h cornerMargin r i
+    m = margin h corner_margin r i
 
     abbrev m' : Float
-    m' = margin h cornerMargin r (next r.size i)
+    m' = margin h corner_margin r (next r.size i)
 
     a_within : PointWithin 1000000 a
     a_within = ring i l
@@ -106,7 +106,7 @@ module _ (h cornerMargin : Float) (r : Ring) (hw : Within 1000000 h) (hc : T (cl
     b_within : PointWithin 1000000 b
     b_within = ring (next r.size i) (next_in r.size i l)
 
-    span_within : Within 4194304 (span h cornerMargin r i)
+    span_within : Within 4194304 (span h corner_margin r i)
     unfolding span
     span_within =
         let w = side_within a b a_within b_within in
@@ -117,18 +117,18 @@ module _ (h cornerMargin : Float) (r : Ring) (hw : Within 1000000 h) (hc : T (cl
     -- the jth of k inner points, along the side
     module _ (k j : ℕ) (few : k ≤ front_node_limit) (jk : j < k) where
       abbrev along : Float
-      along = m ⊕ span h cornerMargin r i ⊗ (of_int binary64 (pos j) ⊕ decimal 5 1) ⊘ of_int binary64 (pos k)
+      along = m ⊕ span h corner_margin r i ⊗ (of_int binary64 (pos j) ⊕ decimal 5 1) ⊘ of_int binary64 (pos k)
 
       along_side : Within 104194304 along
       along_side =
           let half : Within 1 (decimal 5 1) = round_under false 5 10 1 1 (lit< tt) (lit< tt) (whole_exact 1 (lit≤ tt)) (lit≤ tt) in
           let step = add_within k (omega arith) (of_int binary64 (pos j)) (decimal 5 1) j 1 (omega arith) (whole_within j (omega arith)) half in
-          let part = mul_within (span h cornerMargin r i) (of_int binary64 (pos j) ⊕ decimal 5 1) 4194304 k (4194304 * k) (omega arith) (omega arith) span_within step in
-          add_within 104194304 (lit≤ tt) m (span h cornerMargin r i ⊗ (of_int binary64 (pos j) ⊕ decimal 5 1) ⊘ of_int binary64 (pos k)) 100000000 4194304 (lit≤ tt) (margin_within i)
-          (div_whole (span h cornerMargin r i ⊗ (of_int binary64 (pos j) ⊕ decimal 5 1)) 4194304 k (lit≤ tt) (omega arith) (omega arith) part)
+          let part = mul_within (span h corner_margin r i) (of_int binary64 (pos j) ⊕ decimal 5 1) 4194304 k (4194304 * k) (omega arith) (omega arith) span_within step in
+          add_within 104194304 (lit≤ tt) m (span h corner_margin r i ⊗ (of_int binary64 (pos j) ⊕ decimal 5 1) ⊘ of_int binary64 (pos k)) 100000000 4194304 (lit≤ tt) (margin_within i)
+          (div_whole (span h corner_margin r i ⊗ (of_int binary64 (pos j) ⊕ decimal 5 1)) 4194304 k (lit≤ tt) (omega arith) (omega arith) part)
 
-      point_within : lt (side_at r i) (decimal 1 12) ≡ false → PointWithin 419777216 (innerPoint h cornerMargin r i k j)
-      unfolding innerPoint
+      point_within : lt (side_at r i) (decimal 1 12) ≡ false → PointWithin 419777216 (inner_point h corner_margin r i k j)
+      unfolding inner_point
       point_within long =
           let two : 1000000 + 1000000 ≤ 2 ^ 53 = lit≤ tt in
           let w = toward_within 1000000 two a b a_within b_within in
@@ -142,54 +142,54 @@ module _ (h cornerMargin : Float) (r : Ring) (hw : Within 1000000 h) (hc : T (cl
                 (along_within along (b.y ⊖ a.y) (side_at r i) 104194304 2000000 418777216 (lit≤ tt) (lit≤ tt) along_side w.y s y);
           }
 
-    inner_all : (k j : ℕ) → k ≤ front_node_limit → j ≤ k → lt (side_at r i) (decimal 1 12) ≡ false → All 419777216 (innerPoints h cornerMargin r i k j)
-    unfolding innerPoints
+    inner_all : (k j : ℕ) → k ≤ front_node_limit → j ≤ k → lt (side_at r i) (decimal 1 12) ≡ false → All 419777216 (inner_points h corner_margin r i k j)
+    unfolding inner_points
     inner_all k zero few jk long = all_none 419777216
     inner_all k (suc j) few jk long =
-        let p = innerPoint h cornerMargin r i k j in
+        let p = inner_point h corner_margin r i k j in
         let w = point_within k j few jk long in
-        all_append 419777216 (innerPoints h cornerMargin r i k j) (p.x ∷ p.y ∷ []) (inner_all k j few (omega arith) long) (all_two 419777216 p.x p.y w.x w.y)
+        all_append 419777216 (inner_points h corner_margin r i k j) (p.x ∷ p.y ∷ []) (inner_all k j few (omega arith) long) (all_two 419777216 p.x p.y w.x w.y)
 
   -- ---- the nodes of the first k sides
   record Placed (k : ℕ) : Type 0 where
     pub nodes : ℕ
-    pub whole : nodes * 2 ≡ length (placed h cornerMargin r k)
-    pub all : All 419777216 (placed h cornerMargin r k)
+    pub whole : nodes * 2 ≡ length (placed h corner_margin r k)
+    pub all : All 419777216 (placed h corner_margin r k)
 
-  side_all : (i : ℕ) → i < r.size → parts h cornerMargin r i ≤ front_node_limit → All 419777216 (innerPoints h cornerMargin r i (parts h cornerMargin r i) (placedOn h cornerMargin r i))
-  unfolding placedOn innerPoints le
+  side_all : (i : ℕ) → i < r.size → parts h corner_margin r i ≤ front_node_limit → All 419777216 (inner_points h corner_margin r i (parts h corner_margin r i) (placed_on h corner_margin r i))
+  unfolding placed_on inner_points le
   side_all i l few = go (le (side_at r i) (decimal 1 12)) refl
     where
       k : ℕ
-      k = parts h cornerMargin r i
+      k = parts h corner_margin r i
 
-      go : (t : Bool) → (lt (side_at r i) (decimal 1 12) || eq (side_at r i) (decimal 1 12)) ≡ t → All 419777216 (innerPoints h cornerMargin r i k (cond t 0 k))
+      go : (t : Bool) → (lt (side_at r i) (decimal 1 12) || eq (side_at r i) (decimal 1 12)) ≡ t → All 419777216 (inner_points h corner_margin r i k (cond t 0 k))
       go true e = all_none 419777216
       go false e = inner_all i l k k few (omega arith) (or_false (lt (side_at r i) (decimal 1 12)) (eq (side_at r i) (decimal 1 12)) e).0
 
-  placed_all : planned h cornerMargin r ≤ front_node_limit → (k : ℕ) → k ≤ r.size → Placed k
+  placed_all : planned h corner_margin r ≤ front_node_limit → (k : ℕ) → k ≤ r.size → Placed k
   unfolding placed
   placed_all few zero l = record { nodes = 0; whole = refl; all = all_none 419777216 }
   placed_all few (suc k) l =
       let p = placed_all few k (omega arith) in
       let here = ring k (omega arith) in
-      let side = side_all k (omega arith) (omega (arith, room h cornerMargin r k p.nodes (omega arith) p.whole)) in
-      let more = (r.at k).x ∷ (r.at k).y ∷ innerPoints h cornerMargin r k (parts h cornerMargin r k) (placedOn h cornerMargin r k) in
+      let side = side_all k (omega arith) (omega (arith, room h corner_margin r k p.nodes (omega arith) p.whole)) in
+      let more = (r.at k).x ∷ (r.at k).y ∷ inner_points h corner_margin r k (parts h corner_margin r k) (placed_on h corner_margin r k) in
       record {
-        nodes = p.nodes + (placedOn h cornerMargin r k + 1);
-        whole = rw (add-one k) at (count_step h cornerMargin r k p.nodes (placedOn h cornerMargin r k + 1) p.whole refl);
-        all = all_append 419777216 (placed h cornerMargin r k) more p.all
+        nodes = p.nodes + (placed_on h corner_margin r k + 1);
+        whole = rw (add-one k) at (count_step h corner_margin r k p.nodes (placed_on h corner_margin r k + 1) p.whole refl);
+        all = all_append 419777216 (placed h corner_margin r k) more p.all
             (all_more 419777216 (r.at k).x (r.at k).y _ (within_less (r.at k).x (lit≤ tt) here.x) (within_less (r.at k).y (lit≤ tt) here.y) side);
       }
 
 -- ---- one loop
-pub loop_all : (h cornerMargin : Float) → Within 1000000 h → T (clear h) → Within 100 cornerMargin → NotNegative cornerMargin
-    → (before : ℕ) (ccw : Bool) (given : Ring) (out : List Float) → RingWithin 1000000 given → sample_loop h cornerMargin before ccw given ≡ gives out → All 419777216 out
+pub loop_all : (h corner_margin : Float) → Within 1000000 h → T (clear h) → Within 100 corner_margin → NotNegative corner_margin
+    → (before : ℕ) (ccw : Bool) (given : Ring) (out : List Float) → RingWithin 1000000 given → sample_loop h corner_margin before ccw given ≡ gives out → All 419777216 out
 unfolding sample_loop
-loop_all h cornerMargin hw hc cw cn before ccw given out g e =
+loop_all h corner_margin hw hc cw cn before ccw given out g e =
     let r = loop_ring ccw given in
-    let got = placed h cornerMargin r r.size in
+    let got = placed h corner_margin r r.size in
     let all = numbered_gives _ got out e in
     let ten = first_none 9 _ _ (first_none 6 _ _ all.0).1 in
-    let few = ltb-false front_node_limit (before + planned h cornerMargin r) ten.0 in
-    subst (All 419777216) all.1 (placed_all h cornerMargin r hw hc cw cn (ring_within 1000000 ccw given g) (omega arith) r.size (omega arith)).all
+    let few = ltb-false front_node_limit (before + planned h corner_margin r) ten.0 in
+    subst (All 419777216) all.1 (placed_all h corner_margin r hw hc cw cn (ring_within 1000000 ccw given g) (omega arith) r.size (omega arith)).all

@@ -10,13 +10,13 @@ use Rattle.placing.specs.Placed.{placed}
 -- the loop, with the numbers 7, 10, 8, 9 in this order; `before` nodes were planned for the loops before
 
 unfoldable pub sample_loop : Float → Float → ℕ → Bool → Ring → Outcome (List Float)
-sample_loop h cornerMargin before ccw given =
+sample_loop h corner_margin before ccw given =
     let r = loop_ring ccw given in
-    let out = placed h cornerMargin r r.size in
+    let out = placed h corner_margin r r.size in
     let number =
     first_true
     (test 7 (ltb r.size 3)
-    ∷ test 10 (ltb front_node_limit (before + planned h cornerMargin r))
+    ∷ test 10 (ltb front_node_limit (before + planned h corner_margin r))
     ∷ test 8 (ltb (length out / 2) 4)
     ∷ test 9 (eqb (length out / 2 % 2) 1)
     ∷ []) in

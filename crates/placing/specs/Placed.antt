@@ -8,25 +8,25 @@ use Rattle.geometry.specs.declared.Point.{Point}
 use Rattle.geometry.specs.Rings.{Ring, next}
 use Rattle.planning.specs.Plan.{side_at, margin, span, parts}
 
-module _ (h cornerMargin : Float) (r : Ring) where
+module _ (h corner_margin : Float) (r : Ring) where
   -- the jth inner point of side i, where that side gets k
-  unfoldable pub innerPoint : ℕ → ℕ → ℕ → Point
-  innerPoint i k j =
+  unfoldable pub inner_point : ℕ → ℕ → ℕ → Point
+  inner_point i k j =
       let a = r.at i in
       let b = r.at (next r.size i) in
-      let t = (margin h cornerMargin r i ⊕ span h cornerMargin r i ⊗ (of_int binary64 (pos j) ⊕ decimal 5 1) ⊘ of_int binary64 (pos k)) ⊘ side_at r i in
+      let t = (margin h corner_margin r i ⊕ span h corner_margin r i ⊗ (of_int binary64 (pos j) ⊕ decimal 5 1) ⊘ of_int binary64 (pos k)) ⊘ side_at r i in
       record { x = a.x ⊕ t ⊗ (b.x ⊖ a.x); y = a.y ⊕ t ⊗ (b.y ⊖ a.y) }
 
   -- the first j inner points of side i, where that side gets k
-  unfoldable pub innerPoints : ℕ → ℕ → ℕ → List Float
-  innerPoints i k zero = []
-  innerPoints i k (suc j) = let p = innerPoint i k j in innerPoints i k j ++ (p.x ∷ p.y ∷ [])
+  unfoldable pub inner_points : ℕ → ℕ → ℕ → List Float
+  inner_points i k zero = []
+  inner_points i k (suc j) = let p = inner_point i k j in inner_points i k j ++ (p.x ∷ p.y ∷ [])
 
   -- a side of length at most 1e-12 gets none
-  unfoldable pub placedOn : ℕ → ℕ
-  placedOn i = cond (le (side_at r i) (decimal 1 12)) 0 (parts h cornerMargin r i)
+  unfoldable pub placed_on : ℕ → ℕ
+  placed_on i = cond (le (side_at r i) (decimal 1 12)) 0 (parts h corner_margin r i)
 
   -- the nodes of the first k sides: each side's start and its inner points
   unfoldable pub placed : ℕ → List Float
   placed zero = []
-  placed (suc k) = placed k ++ ((r.at k).x ∷ (r.at k).y ∷ innerPoints k (parts h cornerMargin r k) (placedOn k))
+  placed (suc k) = placed k ++ ((r.at k).x ∷ (r.at k).y ∷ inner_points k (parts h corner_margin r k) (placed_on k))

@@ -16,38 +16,38 @@ use Rattle.placing.specs.Placed.{placed}
 
 -- a side from a to b with its length, its margin at a and its span
 module _ (a b : Point) (side margin span : Float) (k : ℕ) where
-  -- the jth of its k inner points (`innerPoint`)
+  -- the jth of its k inner points (`inner_point`)
   abbrev pub between : ℕ → Point
   between j =
       let t = (margin ⊕ span ⊗ (of_int binary64 (pos j) ⊕ decimal 5 1) ⊘ of_int binary64 (pos k)) ⊘ side in
       record { x = a.x ⊕ t ⊗ (b.x ⊖ a.x); y = a.y ⊕ t ⊗ (b.y ⊖ a.y) }
 
-  -- the first j of them (`innerPoints`)
+  -- the first j of them (`inner_points`)
   unfoldable pub betweens : ℕ → List Float
   betweens zero = []
   betweens (suc j) = betweens j ++ ((between j).x ∷ (between j).y ∷ [])
 
 -- a loop's ring with the numbers 10, 8 and 9, in this order (`sample_loop` behind its number 7)
 abbrev pub placed_outcome : Float → Float → ℕ → Ring → Outcome (List Float)
-placed_outcome h cornerMargin before r =
-    let out = placed h cornerMargin r r.size in
+placed_outcome h corner_margin before r =
+    let out = placed h corner_margin r r.size in
     let number =
     first_true
-    (test 10 (ltb front_node_limit (before + planned h cornerMargin r))
+    (test 10 (ltb front_node_limit (before + planned h corner_margin r))
     ∷ test 8 (ltb (length out / 2) 4)
     ∷ test 9 (eqb (length out / 2 % 2) 1)
     ∷ []) in
     outcome number out
 
 -- what is left of a loop that is not refused: its nodes, written from place `at` of the points on; `p` nodes planned and `k` placed
-pub record Written (h cornerMargin : Float) (r : Ring) (before at p k : ℕ) (entry exit : List Float) : Type 0 where
-  pub planned_is : p ≡ planned h cornerMargin r
-  pub placed_is : k * 2 ≡ length (placed h cornerMargin r r.size)
+pub record Written (h corner_margin : Float) (r : Ring) (before at p k : ℕ) (entry exit : List Float) : Type 0 where
+  pub planned_is : p ≡ planned h corner_margin r
+  pub placed_is : k * 2 ≡ length (placed h corner_margin r r.size)
   pub within : before + p ≤ front_node_limit
   pub fewer : k ≤ p
-  pub points : exit ≡ sets entry (at * 2) (placed h cornerMargin r r.size)
+  pub points : exit ≡ sets entry (at * 2) (placed h corner_margin r r.size)
 
 -- document 01's number and values for each case of `Made`, against the outcome of a definition: the nodes planned and placed, with what is written, or the number of the refusal
 abbrev pub MadeIs : Float → Float → Ring → ℕ → ℕ → List Float → List Float → Outcome (List Float) → Made → Type 0
-MadeIs h cornerMargin r before at entry exit answer (Nodes p k) = (answer ≡ gives (placed h cornerMargin r r.size)) × Written h cornerMargin r before at p k entry exit
-MadeIs h cornerMargin r before at entry exit answer (Refused n) = answer ≡ refused n
+MadeIs h corner_margin r before at entry exit answer (Nodes p k) = (answer ≡ gives (placed h corner_margin r r.size)) × Written h corner_margin r before at p k entry exit
+MadeIs h corner_margin r before at entry exit answer (Refused n) = answer ≡ refused n

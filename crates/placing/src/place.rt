@@ -84,12 +84,12 @@ fn place_side(
     requires n_bound { (n * 2 ≤ lists.length pts.now) × (i < n) × (length ≡ plans.side_at (turned_if back (ring_of pts.now n)) i) × (span ≡ plans.span h corner_margin (turned_if back (ring_of pts.now n)) i) }
     requires i_value { plans.parts h corner_margin (turned_if back (ring_of pts.now n)) i ≡ plans.inner h corner_margin (turned_if back (ring_of pts.now n)) i + cond (eqb i longer) 1 0 }
     requires i_bound { (at + 1 + plans.parts h corner_margin (turned_if back (ring_of pts.now n)) i ≤ front_node_limit) × (front_node_limit * 2 ≤ lists.length points.old) }
-    ensures { (result ≡ laid.placedOn h corner_margin (turned_if back (ring_of pts.now n)) i + 1)
+    ensures { (result ≡ laid.placed_on h corner_margin (turned_if back (ring_of pts.now n)) i + 1)
         × (points.new ≡ sets points.old (at * 2)
         (((turned_if back (ring_of pts.now n)).at i).x ∷ ((turned_if back (ring_of pts.now n)).at i).y
-        ∷ laid.innerPoints h corner_margin (turned_if back (ring_of pts.now n)) i
+        ∷ laid.inner_points h corner_margin (turned_if back (ring_of pts.now n)) i
         (plans.parts h corner_margin (turned_if back (ring_of pts.now n)) i)
-        (laid.placedOn h corner_margin (turned_if back (ring_of pts.now n)) i))) }
+        (laid.placed_on h corner_margin (turned_if back (ring_of pts.now n)) i))) }
 {
     let a = ring_point(pts, n, back, i);
     geometry::put_point(points, at, a.x, a.y);

@@ -41,10 +41,10 @@ back_again n i g = go (eqb (i + 1) n) refl
     go true e = rw e (last n i (eqb-true (i + 1) n e))
     go false e = rw (e, ne_eqb (i + 1) 0 (λ (q : i + 1 ≡ 0). positive i q)) (less i)
 
-pub margin_is : (h cornerMargin : Float) (r : Ring) (i : ℕ) (t : Bool) (m : Float) → t ≡ sharp_at r i → m ≡ cond t (cornerMargin ⊗ h) (decimal 0 0)
-    → m ≡ margin h cornerMargin r i
+pub margin_is : (h corner_margin : Float) (r : Ring) (i : ℕ) (t : Bool) (m : Float) → t ≡ sharp_at r i → m ≡ cond t (corner_margin ⊗ h) (decimal 0 0)
+    → m ≡ margin h corner_margin r i
 unfolding margin
-margin_is h cornerMargin r i t m e f = rw (f, e)
+margin_is h corner_margin r i t m e f = rw (f, e)
 
 module _ (r : Ring) where
   pub length_is : (i : ℕ) (s l : Float) → s ≡ square (along r i) → l ≡ root s → l ≡ side_at r i

@@ -10,10 +10,10 @@ use Rattle.geometry.specs.Measures.{side_length, sharp_at}
 abbrev pub side_at : Ring → ℕ → Float
 side_at r i = side_length (r.at i) (r.at (next r.size i))
 
-module _ (h cornerMargin : Float) (r : Ring) where
+module _ (h corner_margin : Float) (r : Ring) where
   -- what the corner at place i takes from a side that ends there
   unfoldable pub margin : ℕ → Float
-  margin i = cond (sharp_at r i) (cornerMargin ⊗ h) (decimal 0 0)
+  margin i = cond (sharp_at r i) (corner_margin ⊗ h) (decimal 0 0)
 
   unfoldable pub span : ℕ → Float
   span i = greater (side_at r i ⊖ margin i ⊖ margin (next r.size i)) (decimal 0 0)
@@ -21,9 +21,9 @@ module _ (h cornerMargin : Float) (r : Ring) where
   unfoldable pub inner : ℕ → ℕ
   inner i = cond (lt (span i) (decimal 6 1 ⊗ h)) 0 (max 1 (round_away (span i ⊘ h)))
 
-  unfoldable pub innerSum : ℕ → ℕ
-  innerSum zero = 0
-  innerSum (suc k) = innerSum k + inner k
+  unfoldable pub inner_sum : ℕ → ℕ
+  inner_sum zero = 0
+  inner_sum (suc k) = inner_sum k + inner k
 
   -- the longest of the first k sides with a positive span, the first on a tie, and its length; place 0 and -1 when there is none
   unfoldable pub longest : ℕ → ℕ × Float
@@ -32,7 +32,7 @@ module _ (h cornerMargin : Float) (r : Ring) where
 
   -- nodes plus inner points; an odd number gets one more
   unfoldable pub total : ℕ
-  total = r.size + innerSum r.size
+  total = r.size + inner_sum r.size
 
   unfoldable pub planned : ℕ
   planned = total + total % 2

@@ -89,9 +89,9 @@ fn margin_behind(margins: &[f64], first: f64, j: usize) -> f64
 // Plans the sides of any ring that has these lengths and margins. Each margin gives way to the side's span.
 fn plan_measured(n: usize, h: f64, lengths: &[f64], spans: &mut [f64]) -> Plan
     requires { (0 < n) × (n ≤ front_node_limit) × (n ≤ length lengths.now) × (n ≤ length spans.old) }
-    ensures { (cornerMargin : Float) (ring : Ring) → Measured h cornerMargin ring n lengths.now spans.old
-        → (result.total ≡ n + min (plans.innerSum h cornerMargin ring n) 2049) × (result.longest ≡ (plans.longest h cornerMargin ring n).0)
-        × ((i : ℕ) → i < n → get_or spans.new i nan ≡ plans.span h cornerMargin ring i) }
+    ensures { (corner_margin : Float) (ring : Ring) → Measured h corner_margin ring n lengths.now spans.old
+        → (result.total ≡ n + min (plans.inner_sum h corner_margin ring n) 2049) × (result.longest ≡ (plans.longest h corner_margin ring n).0)
+        × ((i : ℕ) → i < n → get_or spans.new i nan ≡ plans.span h corner_margin ring i) }
 {
     let first = spans[0];
     let mut sum = 0usize;
@@ -128,7 +128,7 @@ pub fn plan_sides(
     spans: &mut [f64],
 ) -> Plan
     requires { (n * 2 ≤ length pts.now) × (0 < n) × (n ≤ front_node_limit) × (n ≤ length lengths.old) × (n ≤ length spans.old) }
-    ensures { (result.total ≡ n + min (plans.innerSum h corner_margin (turned_if back (ring_of pts.now n)) n) 2049)
+    ensures { (result.total ≡ n + min (plans.inner_sum h corner_margin (turned_if back (ring_of pts.now n)) n) 2049)
         × (result.longest ≡ (plans.longest h corner_margin (turned_if back (ring_of pts.now n)) n).0)
         × ((i : ℕ) → i < n → get_or lengths.new i nan ≡ plans.side_at (turned_if back (ring_of pts.now n)) i)
         × ((i : ℕ) → i < n → get_or spans.new i nan ≡ plans.span h corner_margin (turned_if back (ring_of pts.now n)) i) }

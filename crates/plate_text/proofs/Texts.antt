@@ -20,7 +20,7 @@ use Rattle.input.specs.Defaults.{defaults}
 use Rattle.rules.specs.Calls.{job_call}
 use Rattle.text.specs.Putting.{Put}
 use Rattle.job_text.specs.declared.jobs.JobRead.{JobRead}
-use Rattle.job_text.specs.declared.jobs.JobRead.TheVariants as jobRead
+use Rattle.job_text.specs.declared.jobs.JobRead.TheVariants as job_read
 use Rattle.job_text.specs.Drawing.{Drawing, Place, loops, job_of}
 use Rattle.job_text.specs.Reading.{read_job}
 use Rattle.job_text.specs.Answers.{answer_of, too_many, JobReadIs}
@@ -76,27 +76,27 @@ pub record Found (t : List ℕ) (coords : List Float) (lengths : List ℕ) (size
   pub few : (pairs ≤ pair_limit) × (n ≤ loop_limit)
 
 module _ (t : List ℕ) (coords : List Float) (lengths : List ℕ) (r : JobRead) (is : JobReadIs t coords lengths r) where
-  pub no_job : r ≡ jobRead.Unreadable → refused_text 11 ≡ pave_text t
+  pub no_job : r ≡ job_read.Unreadable → refused_text 11 ≡ pave_text t
   unfolding answer_of
   no_job e = sym (read_none t (go (read_job t) (sym is.answer ∙ e)))
     where
-      many : (b : Bool) (x : Float) (p n : ℕ) → cond b jobRead.TooMany (jobRead.Is x p n) ≡ jobRead.Unreadable → ⊥
+      many : (b : Bool) (x : Float) (p n : ℕ) → cond b job_read.TooMany (job_read.Is x p n) ≡ job_read.Unreadable → ⊥
       many true x p n e = let z : ◌≡◌ {A = ℕ} 0 1 = cc in clash z
       many false x p n e = let z : ◌≡◌ {A = ℕ} 0 1 = cc in clash z
 
-      go : (o : Option Drawing) → answer_of o ≡ jobRead.Unreadable → o ≡ none
+      go : (o : Option Drawing) → answer_of o ≡ job_read.Unreadable → o ≡ none
       go none e = refl
       go (some d) e = absurd (many (too_many d) _ _ _ e)
 
-  pub many_job : r ≡ jobRead.TooMany → refused_text 1 ≡ pave_text t
+  pub many_job : r ≡ job_read.TooMany → refused_text 1 ≡ pave_text t
   unfolding answer_of
   many_job e = go (read_job t) refl (sym is.answer ∙ e)
     where
-      many : (d : Drawing) (b : Bool) (x : Float) (p n : ℕ) → too_many d ≡ b → cond b jobRead.TooMany (jobRead.Is x p n) ≡ jobRead.TooMany → too_many d ≡ true
+      many : (d : Drawing) (b : Bool) (x : Float) (p n : ℕ) → too_many d ≡ b → cond b job_read.TooMany (job_read.Is x p n) ≡ job_read.TooMany → too_many d ≡ true
       many d true x p n f e = f
       many d false x p n f e = let z : ◌≡◌ {A = ℕ} 0 1 = cc in clash z
 
-      go : (o : Option Drawing) → read_job t ≡ o → answer_of o ≡ jobRead.TooMany → refused_text 1 ≡ pave_text t
+      go : (o : Option Drawing) → read_job t ≡ o → answer_of o ≡ job_read.TooMany → refused_text 1 ≡ pave_text t
       go none f e = let z : ◌≡◌ {A = ℕ} 0 1 = cc in clash z
       go (some d) f e = sym (read_some t d f ∙ many_1 d (many d (too_many d) _ _ _ refl e))
 
@@ -106,12 +106,12 @@ module _ (t : List ℕ) (coords : List Float) (lengths : List ℕ) (r : JobRead)
       let h = is.holds d q f in
       record { text = rw (h.coords, h.lengths) (sym (read_some t d q)); few = few_of d f }
 
-  pub found : (size : Float) (pairs n : ℕ) → r ≡ jobRead.Is size pairs n → Found t coords lengths size pairs n
+  pub found : (size : Float) (pairs n : ℕ) → r ≡ job_read.Is size pairs n → Found t coords lengths size pairs n
   unfolding answer_of
   found size pairs n e = go (λ (d : Drawing) (f : too_many d ≡ false) (q : read_job t ≡ some d). made d f q) (read_job t) refl (sym is.answer ∙ e)
     where
       pick : (d : Drawing) → (too_many d ≡ false → Found t coords lengths (of_int binary64 (pos d.size)) (length (joined (loops d))) (length (loops d))) → (b : Bool) → too_many d ≡ b
-          → cond b jobRead.TooMany (jobRead.Is (of_int binary64 (pos d.size)) (length (joined (loops d))) (length (loops d))) ≡ jobRead.Is size pairs n → Found t coords lengths size pairs n
+          → cond b job_read.TooMany (job_read.Is (of_int binary64 (pos d.size)) (length (joined (loops d))) (length (loops d))) ≡ job_read.Is size pairs n → Found t coords lengths size pairs n
       pick d m true f e = let z : ◌≡◌ {A = ℕ} 0 1 = cc in clash z
       pick d m false f e =
           let x : of_int binary64 (pos d.size) ≡ size = cc in
@@ -120,7 +120,7 @@ module _ (t : List ℕ) (coords : List Float) (lengths : List ℕ) (r : JobRead)
           rw (← x, ← p, ← k) (m f)
 
       go : ((d : Drawing) → too_many d ≡ false → read_job t ≡ some d → Found t coords lengths (of_int binary64 (pos d.size)) (length (joined (loops d))) (length (loops d))) → (o : Option Drawing) → read_job t ≡ o
-          → answer_of o ≡ jobRead.Is size pairs n → Found t coords lengths size pairs n
+          → answer_of o ≡ job_read.Is size pairs n → Found t coords lengths size pairs n
       go m none f e = let z : ◌≡◌ {A = ℕ} 0 1 = cc in clash z
       go m (some d) f e = pick d (λ (h : too_many d ≡ false). m d h f) (too_many d) refl e
 

@@ -23,11 +23,11 @@ module _ (before here after : Point) (h l1 l2 : Float) (e1 : l1 ≡ side_length 
   abbrev y2 : Float
   y2 = (after.y ⊖ here.y) ⊘ l2
 
-  abbrev bisX : Float
-  bisX = neg y1 ⊕ neg y2
+  abbrev bis_x : Float
+  bis_x = neg y1 ⊕ neg y2
 
-  abbrev bisY : Float
-  bisY = x1 ⊕ x2
+  abbrev bis_y : Float
+  bis_y = x1 ⊕ x2
 
   pub short_before : lt l1 (decimal 1 12) ≡ true → Nothing ≡ project before here after h
   unfolding project
@@ -38,7 +38,7 @@ module _ (before here after : Point) (h l1 l2 : Float) (e1 : l1 ≡ side_length 
     unfolding project
     short_after t2 = rw (← e1, ← e2, t1, t2)
 
-    module _ (t2 : lt l2 (decimal 1 12) ≡ false) (b : Float) (eb : b ≡ root (bisX ⊗ bisX ⊕ bisY ⊗ bisY)) where
+    module _ (t2 : lt l2 (decimal 1 12) ≡ false) (b : Float) (eb : b ≡ root (bis_x ⊗ bis_x ⊕ bis_y ⊗ bis_y)) where
       pub no_bisector : lt b (decimal 1 9) ≡ true → Nothing ≡ project before here after h
       unfolding project
       no_bisector t3 = rw (← e1, ← e2, ← eb, t1, t2, t3)
@@ -50,6 +50,6 @@ module _ (before here after : Point) (h l1 l2 : Float) (e1 : l1 ≡ side_length 
       pub projected : (more distance : Float) → lt b (decimal 1 9) ≡ false → lt (b ⊘ decimal 2 0) (decimal 2 1) ≡ false
           → more ≡ cond (lt (decimal 0 0) (x1 ⊗ y2 ⊖ y1 ⊗ x2) && sharp_turn (x1 ⊗ y2 ⊖ y1 ⊗ x2) (x1 ⊗ x2 ⊕ y1 ⊗ y2)) (decimal 25 2 ⊗ h) (decimal 0 0)
           → distance ≡ lesser (h ⊘ (b ⊘ decimal 2 0) ⊕ more) (decimal 3 0 ⊗ h)
-          → At (here.x ⊕ bisX ⊘ b ⊗ distance) (here.y ⊕ bisY ⊘ b ⊗ distance) ≡ project before here after h
+          → At (here.x ⊕ bis_x ⊘ b ⊗ distance) (here.y ⊕ bis_y ⊘ b ⊗ distance) ≡ project before here after h
       unfolding project
       projected more distance t3 t4 em ed = rw (← e1, ← e2, ← eb, t1, t2, t3, t4, ← em, ← ed)

@@ -147,4 +147,4 @@ module _ (b : Held) (sound : Sound b) (clean : Clean b) (li n : ℕ) (row : List
       → C ≡ counts-after
       → held P Q N b.front_lengths C ≡ written (committed (reading b) li row)
   unfolding after
-  laid_is_lem {old = old} hP ho hQ hN hC = same_held (hP ∙ points_field) (hQ ∙ quads_of_cut old ho) (hN ∙ nodes-field) lengths-field (hC ∙ counts_field)
+  laid_is_lem {old = old} h_p ho h_q h_n h_c = same_held (h_p ∙ points_field) (h_q ∙ quads_of_cut old ho) (h_n ∙ nodes-field) lengths-field (h_c ∙ counts_field)

@@ -42,10 +42,10 @@ module _ (a b : ℕ) (pts : List Float) (f : List ℕ) (c m : ℕ) (even : lengt
   abbrev side : ℕ → ℕ
   side i = is_pair a b (at i) (at (next n i))
 
-  abbrev quadTerm : ℕ → ℕ
-  quadTerm i = is_pair a b c (at (2 * i % n)) + is_pair a b (at (2 * i % n)) (at ((2 * i + 1) % n)) + is_pair a b (at ((2 * i + 1) % n)) (at ((2 * i + 2) % n)) + is_pair a b (at ((2 * i + 2) % n)) c
+  abbrev quad_term : ℕ → ℕ
+  quad_term i = is_pair a b c (at (2 * i % n)) + is_pair a b (at (2 * i % n)) (at ((2 * i + 1) % n)) + is_pair a b (at ((2 * i + 1) % n)) (at ((2 * i + 2) % n)) + is_pair a b (at ((2 * i + 2) % n)) c
 
-  fan_terms : (k : ℕ) → sides_of_all a b (map quad_nodes (fan_quads pts f c k)) ≡ sum quadTerm k
+  fan_terms : (k : ℕ) → sides_of_all a b (map quad_nodes (fan_quads pts f c k)) ≡ sum quad_term k
   unfolding fan_quads sides_of_all sum
   fan_terms zero = refl
   fan_terms (suc k) =
@@ -78,7 +78,7 @@ module _ (a b : ℕ) (pts : List Float) (f : List ℕ) (c m : ℕ) (even : lengt
         | inr h ↦ elim (next_cases n (2 * i + 1) (omega arith)) [ inl g ↦ absurd (omega (arith, h.0, g.0)) | inr g ↦ omega (arith, h.1, g.1) ]
       ]
 
-  term_is : (i : ℕ) → i < m → quadTerm i ≡ spoke i + (side (2 * i) + side (2 * i + 1)) + spoke (next m i)
+  term_is : (i : ℕ) → i < m → quad_term i ≡ spoke i + (side (2 * i) + side (2 * i + 1)) + spoke (next m i)
   term_is i l =
       rw (first i l, second i l, third i l, after_even i l, after_odd i l)
       (omega (arith, pair_swap a b (at (2 * next m i)) c))
@@ -86,7 +86,7 @@ module _ (a b : ℕ) (pts : List Float) (f : List ℕ) (c m : ℕ) (even : lengt
   pub fan-sides : sides_of_all a b (map quad_nodes (fan_quads pts f c m)) ≡ sides a b f + 2 * spokes
   unfolding sides
   fan-sides =
-      let whole : sum quadTerm m ≡ sum (λ i. spoke i + (side (2 * i) + side (2 * i + 1)) + spoke (next m i)) m = sum_cong _ _ m term_is in
+      let whole : sum quad_term m ≡ sum (λ i. spoke i + (side (2 * i) + side (2 * i + 1)) + spoke (next m i)) m = sum_cong _ _ m term_is in
       let one = sum_add (λ i. spoke i + (side (2 * i) + side (2 * i + 1))) (λ i. spoke (next m i)) m in
       let two = sum_add spoke (λ i. side (2 * i) + side (2 * i + 1)) m in
       let ring : sum (λ i. side (2 * i) + side (2 * i + 1)) m ≡ sum side n = sum_pairs side m ∙ ap (sum side) (sym even) in
@@ -134,8 +134,8 @@ module _ (loops : List (List ℕ)) (points : List Float) (quads : List Quad) (f 
   abbrev p : ℕ
   p = length points / 2
 
-  abbrev fanAdded : List Quad
-  fanAdded = fan_quads (points ++ more) f p m
+  abbrev fan_added : List Quad
+  fan_added = fan_quads (points ++ more) f p m
 
   once : (c : ℕ) → occurs c f ≤ 1
   once c = unfold occurs_in_all in omega (arith, good.once c)
@@ -150,21 +150,21 @@ module _ (loops : List (List ℕ)) (points : List Float) (quads : List Quad) (f 
   unfolding sides_of_all
   one_front a b = omega arith
 
-  laid_after : (a b : ℕ) → laid_count loops (quads ++ fanAdded) a b ≡ laid_count loops quads a b + (sides a b f + 2 * spokes a b (points ++ more) f p m even)
-  laid_after a b = laid_append loops quads fanAdded a b ∙ ap (λ t. laid_count loops quads a b + t) (fan-sides a b (points ++ more) f p m even)
+  laid_after : (a b : ℕ) → laid_count loops (quads ++ fan_added) a b ≡ laid_count loops quads a b + (sides a b f + 2 * spokes a b (points ++ more) f p m even)
+  laid_after a b = laid_append loops quads fan_added a b ∙ ap (λ t. laid_count loops quads a b + t) (fan-sides a b (points ++ more) f p m even)
 
-  fan_count : (a b : ℕ) → (laid_count loops (quads ++ fanAdded) a b ≡ 0) ⊎ (laid_count loops (quads ++ fanAdded) a b ≡ 2)
+  fan_count : (a b : ℕ) → (laid_count loops (quads ++ fan_added) a b ≡ 0) ⊎ (laid_count loops (quads ++ fan_added) a b ≡ 2)
   fan_count a b = go (below_or_from a p) (below_or_from b p)
     where
       few : spokes a b (points ++ more) f p m even ≤ 1
       few = spokes_once a b (points ++ more) f p m even new once
 
-      go : (a < p) ⊎ (p ≤ a) → (b < p) ⊎ (p ≤ b) → (laid_count loops (quads ++ fanAdded) a b ≡ 0) ⊎ (laid_count loops (quads ++ fanAdded) a b ≡ 2)
+      go : (a < p) ⊎ (p ≤ a) → (b < p) ⊎ (p ≤ b) → (laid_count loops (quads ++ fan_added) a b ≡ 0) ⊎ (laid_count loops (quads ++ fan_added) a b ≡ 2)
       go (inr x) y = twice _ (spokes a b (points ++ more) f p m even) few (omega (arith, laid_after a b, good.fresh_left a b x, sides_none_left a b f (low a x)))
       go (inl x) (inr y) = twice _ (spokes a b (points ++ more) f p m even) few (omega (arith, laid_after a b, good.fresh_right a b y, sides_none_right a b f (low b y)))
       go (inl x) (inl y) =
           let z = spokes_none a b (points ++ more) f p m even new once (λ e. omega arith) (λ e. omega arith) in
-          let e : laid_count loops (quads ++ fanAdded) a b ≡ laid_count loops quads a b + sides_of_all a b (f ∷ []) = omega (arith, laid_after a b, one_front a b) in
+          let e : laid_count loops (quads ++ fan_added) a b ≡ laid_count loops quads a b + sides_of_all a b (f ∷ []) = omega (arith, laid_after a b, one_front a b) in
           rw e (good.count a b)
 
   -- a fan's quads have the centre, which is node p, and front nodes, which are below p
@@ -191,7 +191,7 @@ module _ (loops : List (List ℕ)) (points : List Float) (quads : List Quad) (f 
     even = omega (arith, length-append points more, good.even);
     once = λ a. omega arith;
     low = λ a h. refl;
-    count = λ a b. rw (add-zero (laid_count loops (quads ++ fanAdded) a b)) (fan_count a b);
+    count = λ a b. rw (add-zero (laid_count loops (quads ++ fan_added) a b)) (fan_count a b);
     own = λ a b s t. absurd (omega arith);
     fresh_left = λ a b h.
         let x : p < a = omega (arith, nodes-after) in
@@ -200,7 +200,7 @@ module _ (loops : List (List ℕ)) (points : List Float) (quads : List Quad) (f 
         let x : p < b = omega (arith, nodes-after) in
         omega (arith, laid_after a b, good.fresh_right a b (omega arith), sides_none_right a b f (low b (omega arith)), spokes_none_right a b (points ++ more) f p m even (λ e. omega arith) (low b (omega arith)));
     quads_low = rw nodes-after
-        (all_append (Below (p + 1)) no_quad quads fanAdded
+        (all_append (Below (p + 1)) no_quad quads fan_added
         (λ i l. let q = good.quads_low i l in (omega (arith, q.0), omega (arith, q.1), omega (arith, q.2), omega (arith, q.3)))
         (fan_low m (omega arith)));
   }

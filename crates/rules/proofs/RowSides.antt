@@ -34,10 +34,10 @@ module _ (a b : ℕ) (old : List ℕ) (first : ℕ) where
   unfoldable pub rungs : ℕ
   rungs = sum rung n
 
-  abbrev quadTerm : ℕ → ℕ
-  quadTerm i = is_pair a b (at i) (at (next n i)) + is_pair a b (at (next n i)) (first + next n i) + is_pair a b (first + next n i) (first + i) + is_pair a b (first + i) (at i)
+  abbrev quad_term : ℕ → ℕ
+  quad_term i = is_pair a b (at i) (at (next n i)) + is_pair a b (at (next n i)) (first + next n i) + is_pair a b (first + next n i) (first + i) + is_pair a b (first + i) (at i)
 
-  row_terms : (k : ℕ) → sides_of_all a b (map quad_nodes (row_quads old first k)) ≡ sum quadTerm k
+  row_terms : (k : ℕ) → sides_of_all a b (map quad_nodes (row_quads old first k)) ≡ sum quad_term k
   unfolding row_quads sides_of_all sum
   row_terms zero = refl
   row_terms (suc k) =

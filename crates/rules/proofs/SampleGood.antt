@@ -20,7 +20,7 @@ use Rattle.input.specs.Job.{Job, loop_limit}
 use Rattle.state.specs.Outcome.{Outcome, refused, gives}
 use Rattle.planning.specs.Ring.{loop_ring}
 use Rattle.planning.specs.Plan.{planned}
-use Rattle.placing.specs.Placed.{placedOn, placed}
+use Rattle.placing.specs.Placed.{placed_on, placed}
 use Rattle.placing.specs.Loop.{sample_loop}
 use Rattle.sampling.specs.Sample.{empty, with_loop, sample_from, sampled}
 use Rattle.pairs.specs.Pairs.{sides, sides_of_all}
@@ -38,8 +38,8 @@ use Rattle.rules.proofs.Allowed.{too_short, Allowed, Stands}
 
 module _ (h margin : Float) (r : Ring) where
   -- the nodes of one side more
-  one_side : (k n : ℕ) → n * 2 ≡ length (placed h margin r k) → (n + (placedOn h margin r k + 1)) * 2 ≡ length (placed h margin r (suc k))
-  one_side k n e = rw (add-one k) at (count_step h margin r k n (placedOn h margin r k + 1) e refl)
+  one_side : (k n : ℕ) → n * 2 ≡ length (placed h margin r k) → (n + (placed_on h margin r k + 1)) * 2 ≡ length (placed h margin r (suc k))
+  one_side k n e = rw (add-one k) at (count_step h margin r k n (placed_on h margin r k + 1) e refl)
 
   placed_even : (k : ℕ) → length (placed h margin r k) % 2 ≡ 0
   placed_even zero = unfold placed in refl

@@ -45,20 +45,20 @@ pub record Centre : Type 0 where
 
 module _ (outline : List Ring) (r : Ring) (b : Box) where
   -- only points in `Domain::contains` and within the front count
-  unfoldable pub tryPoint : Point → Centre → Centre
-  tryPoint p best =
+  unfoldable pub try_point : Point → Centre → Centre
+  try_point p best =
       let clearance = ring_distance (inf false) p r r.size in
       cond (contains outline p && in_polygon p r && lt best.clearance clearance) (record { point = p; clearance = clearance }) best
 
   -- the first j points of the grid's column i
-  unfoldable pub searchColumn : ℕ → ℕ → Centre → Centre
-  searchColumn i zero best = best
-  searchColumn i (suc j) best = tryPoint (grid_point b i j) (searchColumn i j best)
+  unfoldable pub search_column : ℕ → ℕ → Centre → Centre
+  search_column i zero best = best
+  search_column i (suc j) best = try_point (grid_point b i j) (search_column i j best)
 
   -- the first i columns
-  unfoldable pub searchGrid : ℕ → Centre → Centre
-  searchGrid zero best = best
-  searchGrid (suc i) best = searchColumn i 13 (searchGrid i best)
+  unfoldable pub search_grid : ℕ → Centre → Centre
+  search_grid zero best = best
+  search_grid (suc i) best = search_column i 13 (search_grid i best)
 
 -- the search starts from the middle of the box, with no clearance
 abbrev pub start : Box → Centre
@@ -68,7 +68,7 @@ start b = record {
 }
 
 unfoldable pub centre : List Ring → Ring → Centre
-centre outline r = let b = box r r.size in searchGrid outline r b 13 (start b)
+centre outline r = let b = box r r.size in search_grid outline r b 13 (start b)
 
 -- ---- the quads: the centre is node 0 of each before turning; the others are three front nodes in turn
 

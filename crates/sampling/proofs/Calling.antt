@@ -21,10 +21,10 @@ use Rattle.input.proofs.Shape.{Shaped, accepted}
 use Rattle.sampling.specs.Sample.{sampled, on_job, sample_call}
 use Rattle.sampling.specs.declared.all_loops.Total.{Total}
 use Rattle.sampling.specs.declared.all_loops.Total.TheVariants.{Nodes}
-use Rattle.sampling.specs.Sampled.{Sampled, TotalIs, allLoops, of_loops}
+use Rattle.sampling.specs.Sampled.{Sampled, TotalIs, all_loops, of_loops}
 
-pub total_nodes : {coords : List Float} {loops : List ℕ} {h cornerMargin : Float} {p p' : List Float} {n n' l l' : List ℕ} {total : Total} {k : ℕ} → total ≡ Nodes k
-    → TotalIs coords loops h cornerMargin p p' n n' l l' total → Sampled coords loops h cornerMargin k p p' n n' l l'
+pub total_nodes : {coords : List Float} {loops : List ℕ} {h corner_margin : Float} {p p' : List Float} {n n' l l' : List ℕ} {total : Total} {k : ℕ} → total ≡ Nodes k
+    → TotalIs coords loops h corner_margin p p' n n' l l' total → Sampled coords loops h corner_margin k p p' n n' l l'
 total_nodes e t = rw e at t
 
 pub same_lengths : (p q n l p' q' n' l' : ℕ) → p ≡ p' → q ≡ q' → n ≡ n' → l ≡ l' → lengths_of p q n l ≡ lengths_of p' q' n' l'
@@ -33,7 +33,7 @@ same_lengths p q n l p' q' n' l' e f g h = rw (e, f, g, h)
 module _ (j : Job) (l : Lengths) where
   -- all loops of the job
   abbrev loops_of : Outcome State
-  loops_of = allLoops j.coords j.loops j.h j.options.corner_margin
+  loops_of = all_loops j.coords j.loops j.h j.options.corner_margin
 
   answer_is : (o : Outcome State) (n : ℕ) → n ≡ input_number j l → cond (eqb n 0) loops_of (refused n) ≡ o → sample_call j l ≡ job_left l o
   unfolding sample_call on_job sampled

@@ -26,7 +26,7 @@ use Rattle.placing.specs.declared.one_loop.Made.{Made}
 use Rattle.placing.specs.declared.one_loop.Made.TheVariants.{Nodes}
 use Rattle.placing.specs.Placing.{MadeIs, Written}
 use Rattle.sampling.specs.Sample.{with_loop, sample_from}
-use Rattle.sampling.specs.Sampled.{of_loops, allLoops, Sampled}
+use Rattle.sampling.specs.Sampled.{of_loops, all_loops, Sampled}
 
 -- ---- fronts
 
@@ -39,8 +39,8 @@ lengths_more fs f = map-append length fs (f ∷ [])
 
 -- ---- one loop's answer
 
-pub made_nodes : {h cornerMargin : Float} {r : Ring} {before at p k : ℕ} {entry exit : List Float} {answer : Outcome (List Float)} {made : Made} → made ≡ Nodes p k
-    → MadeIs h cornerMargin r before at entry exit answer made → (answer ≡ gives (placed h cornerMargin r r.size)) × Written h cornerMargin r before at p k entry exit
+pub made_nodes : {h corner_margin : Float} {r : Ring} {before at p k : ℕ} {entry exit : List Float} {answer : Outcome (List Float)} {made : Made} → made ≡ Nodes p k
+    → MadeIs h corner_margin r before at entry exit answer made → (answer ≡ gives (placed h corner_margin r r.size)) × Written h corner_margin r before at p k entry exit
 made_nodes e w = rw e at w
 
 -- ---- the slice of the coordinates that are left
@@ -50,30 +50,30 @@ rest_whole l n = take_all (length l - n) (drop n l) (le_of_eq (length-drop n l))
 
 -- ---- one loop of those to come
 
-module _ (h cornerMargin : Float) (before : ℕ) (ccw : Bool) (s : State) (r : Ring) (rs : List Ring) where
-  pub from_refused : (number : ℕ) → sample_loop h cornerMargin before ccw r ≡ refused number → sample_from h cornerMargin before ccw s (r ∷ rs) ≡ refused number
+module _ (h corner_margin : Float) (before : ℕ) (ccw : Bool) (s : State) (r : Ring) (rs : List Ring) where
+  pub from_refused : (number : ℕ) → sample_loop h corner_margin before ccw r ≡ refused number → sample_from h corner_margin before ccw s (r ∷ rs) ≡ refused number
   unfolding sample_from
   from_refused number e =
       subst
       (λ (x : Outcome (List Float)).
-      ◌≡◌ {A = Outcome State} (elim x as (λ _. Outcome State) [ refused n ↦ refused n | gives out ↦ sample_from h cornerMargin (before + planned h cornerMargin (loop_ring ccw r)) false (with_loop s out) rs ]) (refused number))
+      ◌≡◌ {A = Outcome State} (elim x as (λ _. Outcome State) [ refused n ↦ refused n | gives out ↦ sample_from h corner_margin (before + planned h corner_margin (loop_ring ccw r)) false (with_loop s out) rs ]) (refused number))
       (sym e) refl
 
-  pub from_given : (out : List Float) → sample_loop h cornerMargin before ccw r ≡ gives out
-      → sample_from h cornerMargin before ccw s (r ∷ rs) ≡ sample_from h cornerMargin (before + planned h cornerMargin (loop_ring ccw r)) false (with_loop s out) rs
+  pub from_given : (out : List Float) → sample_loop h corner_margin before ccw r ≡ gives out
+      → sample_from h corner_margin before ccw s (r ∷ rs) ≡ sample_from h corner_margin (before + planned h corner_margin (loop_ring ccw r)) false (with_loop s out) rs
   unfolding sample_from
   from_given given e =
       subst
-      (λ (x : Outcome (List Float)). elim x as (λ _. Outcome State) [ refused n ↦ refused n | gives out ↦ sample_from h cornerMargin (before + planned h cornerMargin (loop_ring ccw r)) false (with_loop s out) rs ]
-      ≡ sample_from h cornerMargin (before + planned h cornerMargin (loop_ring ccw r)) false (with_loop s given) rs)
+      (λ (x : Outcome (List Float)). elim x as (λ _. Outcome State) [ refused n ↦ refused n | gives out ↦ sample_from h corner_margin (before + planned h corner_margin (loop_ring ccw r)) false (with_loop s out) rs ]
+      ≡ sample_from h corner_margin (before + planned h corner_margin (loop_ring ccw r)) false (with_loop s given) rs)
       (sym e) refl
 
-module _ (coords : List Float) (loops : List ℕ) (h cornerMargin : Float) (p₀ : List Float) (n₀ l₀ : List ℕ) where
+module _ (coords : List Float) (loops : List ℕ) (h corner_margin : Float) (p₀ : List Float) (n₀ l₀ : List ℕ) where
   pub record Progress (first before nodes k : ℕ) (p : List Float) (n l : List ℕ) : Type 0 where
     pub points : List Float
     pub fronts : List (List ℕ)
     pub turn : k ≤ length loops
-    pub to_come : sample_from h cornerMargin before (eqb k 0) (of_loops points fronts) (rings (drop first coords) (drop k loops)) ≡ allLoops coords loops h cornerMargin
+    pub to_come : sample_from h corner_margin before (eqb k 0) (of_loops points fronts) (rings (drop first coords) (drop k loops)) ≡ all_loops coords loops h corner_margin
     pub left : first + sum_of (drop k loops) * 2 ≡ length coords
     pub nodes_is : nodes * 2 ≡ length points
     pub fewer : nodes ≤ before
@@ -102,9 +102,9 @@ module _ (coords : List Float) (loops : List ℕ) (h cornerMargin : Float) (p₀
     lengths_are = refl;
   }
 
-module _ {coords : List Float} {loops : List ℕ} {h cornerMargin : Float} {p₀ : List Float} {n₀ l₀ : List ℕ} {first before nodes k : ℕ} {p : List Float} {n l : List ℕ}
-    (sofar : Progress coords loops h cornerMargin p₀ n₀ l₀ first before nodes k p n l) where
-  pub at_last : length loops ≤ k → Sampled coords loops h cornerMargin nodes p₀ p n₀ n l₀ l
+module _ {coords : List Float} {loops : List ℕ} {h corner_margin : Float} {p₀ : List Float} {n₀ l₀ : List ℕ} {first before nodes k : ℕ} {p : List Float} {n l : List ℕ}
+    (sofar : Progress coords loops h corner_margin p₀ n₀ l₀ first before nodes k p n l) where
+  pub at_last : length loops ≤ k → Sampled coords loops h corner_margin nodes p₀ p n₀ n l₀ l
   unfolding sample_from rings
   at_last done = record {
     points = sofar.points;
@@ -144,19 +144,19 @@ module _ {coords : List Float} {loops : List ℕ} {h cornerMargin : Float} {p₀
     abbrev others : List Ring
     others = rings (drop (first + m * 2) coords) (drop (k + 1) loops)
 
-    pub loop_refused : (number : ℕ) → sample_loop h cornerMargin before (eqb k 0) given ≡ refused number → allLoops coords loops h cornerMargin ≡ refused number
+    pub loop_refused : (number : ℕ) → sample_loop h corner_margin before (eqb k 0) given ≡ refused number → all_loops coords loops h corner_margin ≡ refused number
     loop_refused number made =
         sym sofar.to_come
-        ∙ ap (λ (rs : List Ring). sample_from h cornerMargin before (eqb k 0) (of_loops sofar.points sofar.fronts) rs) next-rings
-        ∙ from_refused h cornerMargin before (eqb k 0) (of_loops sofar.points sofar.fronts) given others number made
+        ∙ ap (λ (rs : List Ring). sample_from h corner_margin before (eqb k 0) (of_loops sofar.points sofar.fronts) rs) next-rings
+        ∙ from_refused h corner_margin before (eqb k 0) (of_loops sofar.points sofar.fronts) given others number made
 
     abbrev ring : Ring
     ring = loop_ring (eqb k 0) given
 
     abbrev out : List Float
-    out = placed h cornerMargin ring ring.size
+    out = placed h corner_margin ring ring.size
 
-    module _ {before' placed' : ℕ} {p' : List Float} {n' l' : List ℕ} (made : sample_loop h cornerMargin before (eqb k 0) given ≡ gives out) (w : Written h cornerMargin ring before nodes before' placed' p p')
+    module _ {before' placed' : ℕ} {p' : List Float} {n' l' : List ℕ} (made : sample_loop h corner_margin before (eqb k 0) given ≡ gives out) (w : Written h corner_margin ring before nodes before' placed' p p')
         (hn : n' ≡ sets n nodes (numbered nodes placed')) (hl : l' ≡ set l k placed') where
       abbrev front : List ℕ
       front = numbered nodes placed'
@@ -164,11 +164,11 @@ module _ {coords : List Float} {loops : List ℕ} {h cornerMargin : Float} {p₀
       abbrev now : State
       now = of_loops sofar.points sofar.fronts
 
-      on : sample_from h cornerMargin (before + before') false (with_loop now out) others ≡ allLoops coords loops h cornerMargin
+      on : sample_from h corner_margin (before + before') false (with_loop now out) others ≡ all_loops coords loops h corner_margin
       on =
-          ap (λ (b : ℕ). sample_from h cornerMargin (before + b) false (with_loop now out) others) w.planned_is
-          ∙ sym (ap (λ (rs : List Ring). sample_from h cornerMargin before (eqb k 0) now rs) next-rings
-          ∙ from_given h cornerMargin before (eqb k 0) now given others out made)
+          ap (λ (b : ℕ). sample_from h corner_margin (before + b) false (with_loop now out) others) w.planned_is
+          ∙ sym (ap (λ (rs : List Ring). sample_from h corner_margin before (eqb k 0) now rs) next-rings
+          ∙ from_given h corner_margin before (eqb k 0) now given others out made)
           ∙ sofar.to_come
 
       with_loop_lem : with_loop now out ≡ of_loops (sofar.points ++ out) (sofar.fronts ++ (front ∷ []))
@@ -181,7 +181,7 @@ module _ {coords : List Float} {loops : List ℕ} {h cornerMargin : Float} {p₀
           half : (x y : ℕ) → y * 2 ≡ x → x / 2 ≡ y
           half x y e = omega arith
 
-      pub one_more : Progress coords loops h cornerMargin p₀ n₀ l₀ (first + m * 2) (before + before') (nodes + placed') (k + 1) p' n' l'
+      pub one_more : Progress coords loops h corner_margin p₀ n₀ l₀ (first + m * 2) (before + before') (nodes + placed') (k + 1) p' n' l'
       one_more = record {
         points = sofar.points ++ out;
         fronts = sofar.fronts ++ (front ∷ []);

@@ -28,11 +28,11 @@ with_loop s out = record {
 
 -- the loops in turn, the first of them outer, where `before` nodes were planned for those before
 unfoldable pub sample_from : Float → Float → ℕ → Bool → State → List Ring → Outcome State
-sample_from h cornerMargin before ccw s [] = gives s
-sample_from h cornerMargin before ccw s (r ∷ rs) =
-    elim (sample_loop h cornerMargin before ccw r) [
+sample_from h corner_margin before ccw s [] = gives s
+sample_from h corner_margin before ccw s (r ∷ rs) =
+    elim (sample_loop h corner_margin before ccw r) [
       | refused n ↦ refused n
-      | gives out ↦ sample_from h cornerMargin (before + planned h cornerMargin (loop_ring ccw r)) false (with_loop s out) rs
+      | gives out ↦ sample_from h corner_margin (before + planned h corner_margin (loop_ring ccw r)) false (with_loop s out) rs
     ]
 
 unfoldable pub sampled : Job → Outcome State

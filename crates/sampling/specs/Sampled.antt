@@ -13,16 +13,16 @@ use Rattle.sampling.specs.Sample.{empty, sample_from}
 abbrev pub of_loops : List Float → List (List ℕ) → State
 of_loops ps fs = record { points = ps; quads = []; fronts = fs; row_quads = 0; core_quads = 0; row_rounds = 0; passes = 0; laid = 0 }
 
-module _ (coords : List Float) (loops : List ℕ) (h cornerMargin : Float) where
+module _ (coords : List Float) (loops : List ℕ) (h corner_margin : Float) where
   -- all loops of a job (`sampled`)
-  abbrev pub allLoops : Outcome State
-  allLoops = sample_from h cornerMargin 0 true empty (rings coords loops)
+  abbrev pub all_loops : Outcome State
+  all_loops = sample_from h corner_margin 0 true empty (rings coords loops)
 
   -- all of them sampled: the points, front nodes and front lengths before (p, n, l) and after
   pub record Sampled (nodes : ℕ) (p p' : List Float) (n n' l l' : List ℕ) : Type 0 where
     pub points : List Float
     pub fronts : List (List ℕ)
-    pub made : allLoops ≡ gives (of_loops points fronts)
+    pub made : all_loops ≡ gives (of_loops points fronts)
     pub nodes_is : nodes * 2 ≡ length points
     pub few : nodes ≤ front_node_limit
     pub joined_is : length (joined fronts) ≡ nodes
@@ -34,4 +34,4 @@ module _ (coords : List Float) (loops : List ℕ) (h cornerMargin : Float) where
   -- document 01's number and values for each case of `Total`: the nodes of all loops, with what is written, or the number of the refusal
   abbrev pub TotalIs : List Float → List Float → List ℕ → List ℕ → List ℕ → List ℕ → Total → Type 0
   TotalIs p p' n n' l l' (Nodes k) = Sampled k p p' n n' l l'
-  TotalIs p p' n n' l l' (Refused k) = allLoops ≡ refused k
+  TotalIs p p' n n' l l' (Refused k) = all_loops ≡ refused k

@@ -59,14 +59,14 @@ module _ (b : Held) (sound : Sound b) where
       → N ≡ take (sum_of (sizes_of b)) b.front_nodes ++ replicate (length b.front_nodes - sum_of (sizes_of b)) 0
       → L ≡ sizes_of b ++ replicate (length b.front_lengths - b.counts.fronts) 0
       → held P Q N L b.counts ≡ written (reading b)
-  cleared_is hP hQ hN hL =
+  cleared_is h_p h_q h_n h_l =
       let p = sound.points in
       let q = sound.quads in
       same_held
-      (hP ∙ cleared_from (decimal 0 0) b.points points_length (b.counts.points * 2) sound.points_long (omega arith) ∙ sym points_held)
-      (hQ ∙ cleared_from 0 b.quads quads_length (b.counts.quads * 4) sound.quads_long (omega arith) ∙ sym quads_held)
-      (hN ∙ cleared_from 0 b.front_nodes front_node_limit (sum_of (sizes_of b)) sound.front_nodes_long sound.front_nodes ∙ sym nodes-held)
-      (hL ∙ cleared_from 0 b.front_lengths front_limit b.counts.fronts sound.front_lengths_long sound.fronts ∙ sym lengths-held)
+      (h_p ∙ cleared_from (decimal 0 0) b.points points_length (b.counts.points * 2) sound.points_long (omega arith) ∙ sym points_held)
+      (h_q ∙ cleared_from 0 b.quads quads_length (b.counts.quads * 4) sound.quads_long (omega arith) ∙ sym quads_held)
+      (h_n ∙ cleared_from 0 b.front_nodes front_node_limit (sum_of (sizes_of b)) sound.front_nodes_long sound.front_nodes ∙ sym nodes-held)
+      (h_l ∙ cleared_from 0 b.front_lengths front_limit b.counts.fronts sound.front_lengths_long sound.fronts ∙ sym lengths-held)
       counts_held
 
   -- ---- buffers c with zeros behind the state of b: sound and clean

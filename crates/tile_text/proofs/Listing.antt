@@ -57,8 +57,8 @@ same_lists : {a a' b b' : List ℕ} {c c' : List Float} {d d' e e' f f' g g' : L
 same_lists ea eb ec ed ee ef eg = cc
 
 module _ (t ln ll : List ℕ) (ps : List Float) (qn ql fn fl ln' ll' : List ℕ) (ps' : List Float) (qn' ql' fn' fl' : List ℕ) (r : LinesRead) (d : DoneRead) (p q f : LinesRead)
-    (readR : RingsReadIs t 0 115 ln ln' ll ll' r) (readD : DoneReadIs t r.next d) (readP : PointsReadIs t d.next ps ps' p)
-    (readQ : RingsReadIs t p.next 113 qn qn' ql ql' q) (readF : RingsReadIs t q.next 102 fn fn' fl fl' f) where
+    (read_r : RingsReadIs t 0 115 ln ln' ll ll' r) (read_d : DoneReadIs t r.next d) (read_p : PointsReadIs t d.next ps ps' p)
+    (read_q : RingsReadIs t p.next 113 qn qn' ql ql' q) (read_f : RingsReadIs t q.next 102 fn fn' fl fl' f) where
   abbrev answer : ListRead
   answer = record {
     loops = r.count;
@@ -81,11 +81,11 @@ module _ (t ln ll : List ℕ) (ps : List Float) (qn ql fn fl ln' ll' : List ℕ)
       let s = l.state in
       let fronts = lines_text (102 ∷ []) s.fronts in
       let quads = lines_text (113 ∷ []) (map quad_nodes s.quads) in
-      let gr = readR.is l.loops (state_text s) plain.loop_nodes plain.loop_lengths (sym e) (unlike_state s) in
-      let gd = readD.is (counts_of s) (points_text s.points ++ (quads ++ fronts)) plain.counts gr.1 in
-      let gp = readP.is (nodes s) s.points (quads ++ fronts) plain.pairs plain.coordinates gd.1 (unlike_lines 112 113 (map quad_nodes s.quads) fronts refl (unlike_last 112 102 s.fronts refl)) in
-      let gq = readQ.is (map quad_nodes s.quads) fronts plain.quad_nodes (four_each s.quads) gp.1 (unlike_last 113 102 s.fronts refl) in
-      let gf = readF.is s.fronts [] plain.front_nodes plain.front_lengths (gq.1 ∙ sym (append-nil fronts)) tt in (
+      let gr = read_r.is l.loops (state_text s) plain.loop_nodes plain.loop_lengths (sym e) (unlike_state s) in
+      let gd = read_d.is (counts_of s) (points_text s.points ++ (quads ++ fronts)) plain.counts gr.1 in
+      let gp = read_p.is (nodes s) s.points (quads ++ fronts) plain.pairs plain.coordinates gd.1 (unlike_lines 112 113 (map quad_nodes s.quads) fronts refl (unlike_last 112 102 s.fronts refl)) in
+      let gq = read_q.is (map quad_nodes s.quads) fronts plain.quad_nodes (four_each s.quads) gp.1 (unlike_last 113 102 s.fronts refl) in
+      let gf = read_f.is s.fronts [] plain.front_nodes plain.front_lengths (gq.1 ∙ sym (append-nil fronts)) tt in (
         gr.0,
         same_counts p.count q.count f.count d.counts (counts_of s) gd.0 gp.0 (gq.0 ∙ length-map s.quads quad_nodes) gf.0,
         same_lists gr.2 gr.3 gp.2 gq.2 gq.3 gf.2 gf.3,

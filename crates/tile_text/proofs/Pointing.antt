@@ -59,14 +59,14 @@ unfolding points_text
 points_more x y ls z = simp append_assoc
 
 module _ (t : List ℕ) (next : ℕ) (x y : Float) (ls : List Float) (z : List ℕ) (e : drop next t ≡ points_text (x ∷ y ∷ ls) ++ z) where
-  abbrev behindX : List ℕ
-  behindX = tab ∷ (bits_text y ++ (lf ∷ (points_text ls ++ z)))
+  abbrev behind_x : List ℕ
+  behind_x = tab ∷ (bits_text y ++ (lf ∷ (points_text ls ++ z)))
 
-  at_x : drop (next + 2) t ≡ bits_text x ++ behindX
-  at_x = behind t next 2 (112 ∷ tab ∷ []) (bits_text x ++ behindX) refl (e ∙ points_more x y ls z)
+  at_x : drop (next + 2) t ≡ bits_text x ++ behind_x
+  at_x = behind t next 2 (112 ∷ tab ∷ []) (bits_text x ++ behind_x) refl (e ∙ points_more x y ls z)
 
-  at_tab : drop (next + 2 + 16) t ≡ behindX
-  at_tab = behind t (next + 2) 16 (bits_text x) behindX (length_hex 16 _) at_x
+  at_tab : drop (next + 2 + 16) t ≡ behind_x
+  at_tab = behind t (next + 2) 16 (bits_text x) behind_x (length_hex 16 _) at_x
 
   at_y : drop (next + 19) t ≡ bits_text y ++ (lf ∷ (points_text ls ++ z))
   at_y =
@@ -77,7 +77,7 @@ module _ (t : List ℕ) (next : ℕ) (x y : Float) (ls : List Float) (z : List �
   at_lf = behind t (next + 19) 16 (bits_text y) _ (length_hex 16 _) at_y
 
   x_digits : slice (next + 2) (next + 2 + 16) t ≡ bits_text x
-  x_digits = here t (next + 2) 16 (bits_text x) behindX (length_hex 16 _) at_x
+  x_digits = here t (next + 2) 16 (bits_text x) behind_x (length_hex 16 _) at_x
 
   y_digits : slice (next + 19) (next + 19 + 16) t ≡ bits_text y
   y_digits = here t (next + 19) 16 (bits_text y) _ (length_hex 16 _) at_y

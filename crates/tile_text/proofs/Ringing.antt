@@ -33,40 +33,40 @@ module _ (letter : ℕ) where
 
 -- ---- where the code is: `count` lines with `stored` nodes read up to place `next`, and those that are left
 
-pub record Rest (t : List ℕ) (letter : ℕ) (oldNodes nodes oldLengths lengths : List ℕ) (next count stored : ℕ) (rings : List (List ℕ)) (rest : List ℕ) : Type 0 where
+pub record Rest (t : List ℕ) (letter : ℕ) (old_nodes nodes old_lengths lengths : List ℕ) (next count stored : ℕ) (rings : List (List ℕ)) (rest : List ℕ) : Type 0 where
   pub left : List (List ℕ)
   pub text : drop next t ≡ lines_text (letter ∷ []) left ++ rest
   pub counted : count + length left ≡ length rings
-  pub nodes_are : sets nodes stored (joined left) ≡ sets oldNodes 0 (joined rings)
-  pub lengths_are : sets lengths count (map length left) ≡ sets oldLengths 0 (map length rings)
+  pub nodes_are : sets nodes stored (joined left) ≡ sets old_nodes 0 (joined rings)
+  pub lengths_are : sets lengths count (map length left) ≡ sets old_lengths 0 (map length rings)
   pub small_nodes : U16s (joined left)
   pub small_lengths : U16s (map length left)
 
-pub record Left (t : List ℕ) (at letter : ℕ) (oldNodes nodes oldLengths lengths : List ℕ) (next count stored : ℕ) : Type 0 where
+pub record Left (t : List ℕ) (at letter : ℕ) (old_nodes nodes old_lengths lengths : List ℕ) (next count stored : ℕ) : Type 0 where
   pub within : (at + count + stored ≤ next) × (next ≤ length t)
   pub is : (rings : List (List ℕ)) (rest : List ℕ) → U16s (joined rings) → U16s (map length rings) → drop at t ≡ lines_text (letter ∷ []) rings ++ rest → Unlike letter rest
-      → Rest t letter oldNodes nodes oldLengths lengths next count stored rings rest
+      → Rest t letter old_nodes nodes old_lengths lengths next count stored rings rest
 
-module _ (t : List ℕ) (at letter : ℕ) (oldNodes oldLengths : List ℕ) where
-  pub left-start : at ≤ length t → Left t at letter oldNodes oldNodes oldLengths oldLengths at 0 0
+module _ (t : List ℕ) (at letter : ℕ) (old_nodes old_lengths : List ℕ) where
+  pub left-start : at ≤ length t → Left t at letter old_nodes old_nodes old_lengths old_lengths at 0 0
   left-start h = record {
     within = (omega arith, h);
     is = λ rings rest s u e o. record { left = rings; text = e; counted = omega arith; nodes_are = refl; lengths_are = refl; small_nodes = s; small_lengths = u };
   }
 
-  module _ (nodes lengths : List ℕ) (next count stored : ℕ) (l : Left t at letter oldNodes nodes oldLengths lengths next count stored) where
+  module _ (nodes lengths : List ℕ) (next count stored : ℕ) (l : Left t at letter old_nodes nodes old_lengths lengths next count stored) where
     -- a line is read
     module _ (h : next < length t) (b : get_or t next 0 ≡ letter) (newer : List ℕ) (r : NumbersRead) (read : NumbersReadIs t (next + 1) stored nodes newer r)
         (longer : List ℕ) (e : r.count < 65536 → longer ≡ set lengths count r.count)
         (q : ℕ) (behind : (r.next ≤ q) × (q ≤ length t) × (r.next < length t → q ≡ r.next + 1)) where
-      one_less : (rings : List (List ℕ)) (rest : List ℕ) → Unlike letter rest → Rest t letter oldNodes nodes oldLengths lengths next count stored rings rest
-          → Rest t letter oldNodes newer oldLengths longer q (count + 1) (stored + r.count) rings rest
+      one_less : (rings : List (List ℕ)) (rest : List ℕ) → Unlike letter rest → Rest t letter old_nodes nodes old_lengths lengths next count stored rings rest
+          → Rest t letter old_nodes newer old_lengths longer q (count + 1) (stored + r.count) rings rest
       unfolding lines_text joined
       one_less rings rest o z = by z.left z.text z.counted z.nodes_are z.lengths_are z.small_nodes z.small_lengths
         where
-          by : (ms : List (List ℕ)) → drop next t ≡ lines_text (letter ∷ []) ms ++ rest → count + length ms ≡ length rings → sets nodes stored (joined ms) ≡ sets oldNodes 0 (joined rings)
-              → sets lengths count (map length ms) ≡ sets oldLengths 0 (map length rings) → U16s (joined ms) → U16s (map length ms)
-              → Rest t letter oldNodes newer oldLengths longer q (count + 1) (stored + r.count) rings rest
+          by : (ms : List (List ℕ)) → drop next t ≡ lines_text (letter ∷ []) ms ++ rest → count + length ms ≡ length rings → sets nodes stored (joined ms) ≡ sets old_nodes 0 (joined rings)
+              → sets lengths count (map length ms) ≡ sets old_lengths 0 (map length rings) → U16s (joined ms) → U16s (map length ms)
+              → Rest t letter old_nodes newer old_lengths longer q (count + 1) (stored + r.count) rings rest
           by [] w c n k s u = absurd (unlike_same letter _ rest o (sym w ∙ first_there t next letter h b))
           by (m ∷ ms) w c n k s u =
               let tail = lines_text (letter ∷ []) ms ++ rest in
@@ -86,7 +86,7 @@ module _ (t : List ℕ) (at letter : ℕ) (oldNodes oldLengths : List ℕ) where
                 small_lengths = small_rest (length m) (map length ms) u;
               }
 
-      pub left_step : Left t at letter oldNodes newer oldLengths longer q (count + 1) (stored + r.count)
+      pub left_step : Left t at letter old_nodes newer old_lengths longer q (count + 1) (stored + r.count)
       left_step =
           let w = l.within in
           let v = read.within in
@@ -95,16 +95,16 @@ module _ (t : List ℕ) (at letter : ℕ) (oldNodes oldLengths : List ℕ) where
           record { within = (omega arith, z); is = λ rings rest s u e o. one_less rings rest o (l.is rings rest s u e o) }
 
     -- no line with this letter follows
-    none_left : Unlike letter (drop next t) → (rings : List (List ℕ)) (rest : List ℕ) → Rest t letter oldNodes nodes oldLengths lengths next count stored rings rest
-        → (count ≡ length rings) × (drop next t ≡ rest) × (nodes ≡ sets oldNodes 0 (joined rings)) × (lengths ≡ sets oldLengths 0 (map length rings))
+    none_left : Unlike letter (drop next t) → (rings : List (List ℕ)) (rest : List ℕ) → Rest t letter old_nodes nodes old_lengths lengths next count stored rings rest
+        → (count ≡ length rings) × (drop next t ≡ rest) × (nodes ≡ sets old_nodes 0 (joined rings)) × (lengths ≡ sets old_lengths 0 (map length rings))
     unfolding lines_text joined
     none_left o rings rest z = by z.left z.text z.counted z.nodes_are z.lengths_are
       where
-        by : (ms : List (List ℕ)) → drop next t ≡ lines_text (letter ∷ []) ms ++ rest → count + length ms ≡ length rings → sets nodes stored (joined ms) ≡ sets oldNodes 0 (joined rings)
-            → sets lengths count (map length ms) ≡ sets oldLengths 0 (map length rings)
-            → (count ≡ length rings) × (drop next t ≡ rest) × (nodes ≡ sets oldNodes 0 (joined rings)) × (lengths ≡ sets oldLengths 0 (map length rings))
+        by : (ms : List (List ℕ)) → drop next t ≡ lines_text (letter ∷ []) ms ++ rest → count + length ms ≡ length rings → sets nodes stored (joined ms) ≡ sets old_nodes 0 (joined rings)
+            → sets lengths count (map length ms) ≡ sets old_lengths 0 (map length rings)
+            → (count ≡ length rings) × (drop next t ≡ rest) × (nodes ≡ sets old_nodes 0 (joined rings)) × (lengths ≡ sets old_lengths 0 (map length rings))
         by [] w c n k = (omega arith, w, n, k)
         by (m ∷ ms) w c n k = absurd (unlike_same letter _ (drop next t) o (w ∙ lines_more letter m ms rest))
 
-    pub left_done : Unlike letter (drop next t) → RingsReadIs t at letter oldNodes nodes oldLengths lengths (record { next = next; count = count })
+    pub left_done : Unlike letter (drop next t) → RingsReadIs t at letter old_nodes nodes old_lengths lengths (record { next = next; count = count })
     left_done o = let w = l.within in record { within = (omega arith, w.1); is = λ rings rest s u e v. none_left o rings rest (l.is rings rest s u e v) }

@@ -22,10 +22,10 @@ pub record NumbersReadIs (t : List ℕ) (at from : ℕ) (old new : List ℕ) (r 
   pub is : (ns rest : List ℕ) → U16s ns → drop at t ≡ numbers_text ns ++ (lf ∷ rest) → (r.count ≡ length ns) × (drop r.next t ≡ lf ∷ rest) × (new ≡ sets old from ns)
 
 -- Lines of a letter and nodes, as long as they come: counted, their nodes and their lengths stored from the first place on.
-pub record RingsReadIs (t : List ℕ) (at letter : ℕ) (oldNodes newNodes oldLengths newLengths : List ℕ) (r : LinesRead) : Type 0 where
+pub record RingsReadIs (t : List ℕ) (at letter : ℕ) (old_nodes new_nodes old_lengths new_lengths : List ℕ) (r : LinesRead) : Type 0 where
   pub within : (at + r.count ≤ r.next) × (r.next ≤ length t)
   pub is : (rings : List (List ℕ)) (rest : List ℕ) → U16s (joined rings) → U16s (map length rings) → drop at t ≡ lines_text (letter ∷ []) rings ++ rest → Unlike letter rest
-      → (r.count ≡ length rings) × (drop r.next t ≡ rest) × (newNodes ≡ sets oldNodes 0 (joined rings)) × (newLengths ≡ sets oldLengths 0 (map length rings))
+      → (r.count ≡ length rings) × (drop r.next t ≡ rest) × (new_nodes ≡ sets old_nodes 0 (joined rings)) × (new_lengths ≡ sets old_lengths 0 (map length rings))
 
 -- `p` lines as long as they come: counted, the coordinates stored from the first place on. A list of an odd number of coordinates has no writing of its own.
 pub record PointsReadIs (t : List ℕ) (at : ℕ) (old new : List Float) (r : LinesRead) : Type 0 where

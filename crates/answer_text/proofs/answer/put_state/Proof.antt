@@ -13,7 +13,7 @@ use Rattle.text.specs.Putting.{Room}
 use Rattle.text.proofs.Midst.{Midst, begin, more, room, room_last, last, same_rest}
 use Rattle.answer_text.specs.AnswerText.{state_text}
 use Rattle.answer_text.specs.Fits.{text_limit}
-use Rattle.answer_text.proofs.Pieces.{countsLine, points, quads, fronts, pieces, quads_within, state_fits, place_within, room_within}
+use Rattle.answer_text.proofs.Pieces.{counts_line, points, quads, fronts, pieces, quads_within, state_fits, place_within, room_within}
 use Rattle.answer_text.proofs.answer.put_state.Statement.{statement}
 use Rattle.answer_text.proofs.answer.put_state.Tie as tie
 
@@ -26,7 +26,7 @@ sound s = s.requires.1
 
 -- the text in its four pieces
 first : (s : tie.Start) → Midst s.args.out.now s.args.at (state_text (reading (given s))) s.args.out.now s.args.at
-    (countsLine (given s) (sound s) ++ (points (given s) (sound s) ++ (quads (given s) (sound s) ++ fronts (given s) (sound s))))
+    (counts_line (given s) (sound s) ++ (points (given s) (sound s) ++ (quads (given s) (sound s) ++ fronts (given s) (sound s))))
 first s = same_rest (pieces (given s) (sound s)) (begin s.args.out.now s.args.at (state_text (reading (given s))))
 
 -- every number in the buffers of nodes is a u16, so the text is short
@@ -55,7 +55,7 @@ put-counts-requires c κs =
     let known : tie.After-shared-slice-known3 = search in
     let b = given entry in
     let h = sound entry in
-    room (countsLine b h) (points b h ++ (quads b h ++ fronts b h)) (first entry) (room_for known)
+    room (counts_line b h) (points b h ++ (quads b h ++ fronts b h)) (first entry) (room_for known)
 
 slice-aggregate-put-points : tie.Need-slice-aggregate-put-points
 slice-aggregate-put-points c =

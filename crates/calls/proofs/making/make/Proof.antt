@@ -10,8 +10,8 @@ use Rattle.calls.proofs.making.make.Tie as tie
 abbrev given : tie.Start → Held
 given s = held s.args.points.now s.args.quads.now s.args.front-nodes.now s.args.front-lengths.now s.args.counts
 
-abbrev jobAt : tie.Start → Job
-jobAt s = job s.args.coords.now s.args.loops.now s.args.h s.args.options
+abbrev job_at : tie.Start → Job
+job_at s = job s.args.coords.now s.args.loops.now s.args.h s.args.options
 
 close-requires : tie.Need-close-requires
 close-requires c κs = search rules
@@ -20,7 +20,7 @@ returns : tie.Need-returns
 returns c =
     let at-if1 : tie.Then1 = search in
     let entry : tie.Start = search in
-    c.close.ensures ∙ closes (jobAt entry) entry.args.letter (given entry) at-if1.if1.taken
+    c.close.ensures ∙ closes (job_at entry) entry.args.letter (given entry) at-if1.if1.taken
 
 fan-requires : tie.Need-fan-requires
 fan-requires c κs = search rules
@@ -30,7 +30,7 @@ returns-2 c =
     let at-if2 : tie.Then2 = search in
     let at-if1 : tie.Else1 = search in
     let entry : tie.Start = search in
-    c.fan.ensures ∙ fans (jobAt entry) entry.args.letter (given entry) at-if1.if1.left at-if2.if2.taken
+    c.fan.ensures ∙ fans (job_at entry) entry.args.letter (given entry) at-if1.if1.left at-if2.if2.taken
 
 cast-row : tie.Need-overflow-cast-row
 cast-row c = search rules
@@ -43,7 +43,7 @@ returns-3 c =
     let at-if2 : tie.Else2 = search in
     let at-if1 : tie.Else1 = search in
     let entry : tie.Start = search in
-    c.row.ensures ∙ lays (jobAt entry) entry.args.letter (given entry) at-if1.if1.left at-if2.if2.left
+    c.row.ensures ∙ lays (job_at entry) entry.args.letter (given entry) at-if1.if1.left at-if2.if2.left
 
 pub make_spec : {M : Type 1} → statement M
 make_spec =

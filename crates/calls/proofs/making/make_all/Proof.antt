@@ -23,8 +23,8 @@ decreases-loop coords loops h options letters points₀ quads₀ front-nodes₀ 
 abbrev at_head : tie.At-loop invariant-loop decreases-loop → Held
 at_head c = held c.loop.points c.loop.quads c.loop.front-nodes c.loop.front-lengths c.loop.counts
 
-abbrev jobAt : tie.Start invariant-loop decreases-loop → Job
-jobAt s = job s.args.coords.now s.args.loops.now s.args.h s.args.options
+abbrev job_at : tie.Start invariant-loop decreases-loop → Job
+job_at s = job s.args.coords.now s.args.loops.now s.args.h s.args.options
 
 loop-holds : tie.Need-loop-init invariant-loop decreases-loop
 loop-holds c = (search rules, refl)
@@ -51,14 +51,14 @@ loop-again c =
     let in-loop : tie.In-loop invariant-loop decreases-loop = search in
     let at-loop : tie.At-loop invariant-loop decreases-loop = search in
     let entry : tie.Start invariant-loop decreases-loop = search in
-    (search rules, stepped (jobAt entry) entry.args.letters.now at-loop.loop.k (at_head at-loop) at-make.make.result _ _ _ _ at_after.counts-after.result _ in-loop.loop-test.taken at-make.make.ensures at_after.counts-after.ensures at-loop.loop.inv.1)
+    (search rules, stepped (job_at entry) entry.args.letters.now at-loop.loop.k (at_head at-loop) at-make.make.result _ _ _ _ at_after.counts-after.result _ in-loop.loop-test.taken at-make.make.ensures at_after.counts-after.ensures at-loop.loop.inv.1)
 
 returns : tie.Need-returns invariant-loop decreases-loop
 returns c =
     let at-loop : tie.At-loop invariant-loop decreases-loop = search in
     let over : tie.After-loop invariant-loop decreases-loop = search in
     let entry : tie.Start invariant-loop decreases-loop = search in
-    all_made (jobAt entry) entry.args.letters.now at-loop.loop.k (at_head at-loop) _ over.loop-test.left at-loop.loop.inv.1
+    all_made (job_at entry) entry.args.letters.now at-loop.loop.k (at_head at-loop) _ over.loop-test.left at-loop.loop.inv.1
 
 pub make-all-spec : {M : Type 1} → statement M
 make-all-spec =

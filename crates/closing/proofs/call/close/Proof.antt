@@ -20,16 +20,16 @@ use Rattle.closing.proofs.call.close.Tie as tie
 abbrev given : tie.Start → Held
 given s = held s.args.points.now s.args.quads.now s.args.front-nodes.now s.args.front-lengths.now s.args.counts
 
-abbrev jobAt : tie.Start → Job
-jobAt s = job s.args.coords.now s.args.loop-lengths.now s.args.h s.args.options
+abbrev job_at : tie.Start → Job
+job_at s = job s.args.coords.now s.args.loop-lengths.now s.args.h s.args.options
 
-abbrev limitAt : tie.Start → Float
-limitAt s = s.args.options.corner_limit
+abbrev limit_at : tie.Start → Float
+limit_at s = s.args.options.corner_limit
 
 abbrev start : tie.After-input-number → tie.Start
 start c = search
 
-number : (c : tie.After-input-number) → c.input-number.result ≡ input_number (jobAt (start c)) (lengths (given (start c)))
+number : (c : tie.After-input-number) → c.input-number.result ≡ input_number (job_at (start c)) (lengths (given (start c)))
 number c = c.input-number.ensures
 
 -- ---- past the test of the input: the buffers have their lengths
@@ -38,7 +38,7 @@ abbrev input-at : tie.Else1 → tie.After-input-number
 input-at c = search
 
 right : (c : tie.Else1) → lengths (given (start (input-at c))) ≡ lengths_of points_length quads_length front_node_limit front_limit
-right c = right_lengths_lem (jobAt (start (input-at c))) (given (start (input-at c))) _ (number (input-at c)) c.if1.false
+right c = right_lengths_lem (job_at (start (input-at c))) (given (start (input-at c))) _ (number (input-at c)) c.if1.false
 
 -- ---- past the test of the state: it is sound, and the step decides
 
@@ -53,11 +53,11 @@ sound-at c =
     let at-wrong-state : tie.After-wrong-state = search in
     sounding.sound (given (entered c)) (right (else1 c)) (sym at-wrong-state.wrong-state.ensures ∙ c.if2.false)
 
-stood : (c : tie.Else2) (a : Left) → a ≡ state_left (given (entered c)) (closings (limitAt (entered c)) (reading (given (entered c))))
-    → a ≡ on_state (input_number (jobAt (entered c)) (lengths (given (entered c)))) (given (entered c)) (closings (limitAt (entered c)))
+stood : (c : tie.Else2) (a : Left) → a ≡ state_left (given (entered c)) (closings (limit_at (entered c)) (reading (given (entered c))))
+    → a ≡ on_state (input_number (job_at (entered c)) (lengths (given (entered c)))) (given (entered c)) (closings (limit_at (entered c)))
 stood c a e =
     let at-wrong-state : tie.After-wrong-state = search in
-    rw (← number (input-at (else1 c))) (state_stands (given (entered c)) (closings (limitAt (entered c))) _ (else1 c).if1.false _ at-wrong-state.wrong-state.ensures c.if2.false a e)
+    rw (← number (input-at (else1 c))) (state_stands (given (entered c)) (closings (limit_at (entered c))) _ (else1 c).if1.false _ at-wrong-state.wrong-state.ensures c.if2.false a e)
 
 input-number-requires : tie.Need-input-number-requires
 input-number-requires c κs = search rules
@@ -66,7 +66,7 @@ returns : tie.Need-returns
 unfolding close_call
 returns c =
     let at-input-number : tie.After-input-number = search in
-    rw (← number at-input-number) (input_refuses (given (start at-input-number)) (closings (limitAt (start at-input-number))) _ c.if1.true)
+    rw (← number at-input-number) (input_refuses (given (start at-input-number)) (closings (limit_at (start at-input-number))) _ c.if1.true)
 
 wrong-state-requires : tie.Need-wrong-state-requires
 wrong-state-requires c κs =
@@ -91,7 +91,7 @@ returns-2 c =
     let at-wrong-state : tie.After-wrong-state = search in
     let at-if1 : tie.Else1 = search in
     let at-input-number = input-at at-if1 in
-    rw (← number at-input-number) (state_refuses (given (start at-input-number)) (closings (limitAt (start at-input-number))) _ at-if1.if1.left _ at-wrong-state.wrong-state.ensures c.if2.true)
+    rw (← number at-input-number) (state_refuses (given (start at-input-number)) (closings (limit_at (start at-input-number))) _ at-if1.if1.left _ at-wrong-state.wrong-state.ensures c.if2.true)
 
 close-small-fronts-requires : tie.Need-close-small-fronts-requires
 close-small-fronts-requires c κs =

@@ -32,16 +32,16 @@ sound s = s.requires.0
 abbrev start : tie.After-find-closures → tie.Start
 start c = search
 
-abbrev addedAfter : tie.After-find-closures → List ℕ
-addedAfter c = c.find-closures.new.1.1.1.1.0
+abbrev added_after : tie.After-find-closures → List ℕ
+added_after c = c.find-closures.new.1.1.1.1.0
 
-added-long : (c : tie.After-find-closures) → length (addedAfter c) ≡ 128
+added-long : (c : tie.After-find-closures) → length (added_after c) ≡ 128
 added-long c = c.find-closures.auto.1.1.1.1.0
 
-abbrev keptAfter : tie.After-find-closures → List Bool
-keptAfter c = c.find-closures.new.1.1.1.1.1.0
+abbrev kept_after : tie.After-find-closures → List Bool
+kept_after c = c.find-closures.new.1.1.1.1.1.0
 
-kept-long : (c : tie.After-find-closures) → length (keptAfter c) ≡ front_limit
+kept-long : (c : tie.After-find-closures) → length (kept_after c) ≡ front_limit
 kept-long c = c.find-closures.auto.1.1.1.1.1.0
 
 few : (c : tie.After-find-closures) → c.find-closures.result ≤ 32
@@ -51,26 +51,26 @@ few c =
     let n = sizes_long b (sound_counted b s) in
     let f = c.find-closures.ensures.0.2 in omega arith
 
-quads-found : (c : tie.After-find-closures) → take (c.find-closures.result * 4) (addedAfter c) ≡ numbers (added (given (start c)) (sound (start c)) (start c).args.limit)
+quads-found : (c : tie.After-find-closures) → take (c.find-closures.result * 4) (added_after c) ≡ numbers (added (given (start c)) (sound (start c)) (start c).args.limit)
 quads-found c =
     let f = few c in
     let e = c.find-closures.ensures.0.0 in
     let l = length-numbers (added (given (start c)) (sound (start c)) (start c).args.limit) in
-    front_part _ _ (addedAfter c) (c.find-closures.result * 4) (omega arith) (omega arith) c.find-closures.ensures.0.1
+    front_part _ _ (added_after c) (c.find-closures.result * 4) (omega arith) (omega arith) c.find-closures.ensures.0.1
 
 -- the marks of the fronts
 abbrev marks : tie.After-find-closures → List Bool
-marks c = take (start c).args.counts.fronts (keptAfter c)
+marks c = take (start c).args.counts.fronts (kept_after c)
 
 marks-long : (c : tie.After-find-closures) → length (marks c) ≡ (start c).args.counts.fronts
-marks-long c = let s = sound (start c) in let l = kept-long c in length-take-le (start c).args.counts.fronts (keptAfter c) (omega arith)
+marks-long c = let s = sound (start c) in let l = kept-long c in length-take-le (start c).args.counts.fronts (kept_after c) (omega arith)
 
 marks-right : (c : tie.After-find-closures) (i : ℕ) → i < length (sizes_of (given (start c)))
     → get_or (marks c) i false ≡ stays (start c).args.limit (points (given (start c)) (sound (start c)) (start c).args.limit) (get_or (fronts (given (start c)) (sound (start c)) (start c).args.limit) i [])
 marks-right c i h =
     let b = given (start c) in
     let g : i < b.counts.fronts = rw (sizes_long b (sound_counted b (sound (start c)))) at h in
-    get_or-take b.counts.fronts (keptAfter c) i false g ∙ c.find-closures.ensures.1 i h
+    get_or-take b.counts.fronts (kept_after c) i false g ∙ c.find-closures.ensures.1 i h
 
 -- ---- past the zeros behind the counts
 
@@ -160,7 +160,7 @@ slice-aggregate-copy-numbers : tie.Need-slice-aggregate-copy-numbers
 slice-aggregate-copy-numbers c =
     let found : tie.After-find-closures = search in
     let f = few found in
-    let l = added-long found in sym (length-take-le _ (addedAfter found) (omega arith))
+    let l = added-long found in sym (length-take-le _ (added_after found) (omega arith))
 
 copy-numbers-requires : tie.Need-copy-numbers-requires
 copy-numbers-requires c κs =
@@ -169,7 +169,7 @@ copy-numbers-requires c κs =
     let s = sound (start found) in
     let f = few found in
     let l = added-long found in
-    let t = length-take-le (found.find-closures.result * 4) (addedAfter found) (omega arith) in
+    let t = length-take-le (found.find-closures.result * 4) (added_after found) (omega arith) in
     let room = fits_in at_clear in
     let q = (cleared-sound at_clear).quads_long in
     omega arith

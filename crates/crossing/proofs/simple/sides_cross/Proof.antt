@@ -5,7 +5,7 @@ use Prim.Native.Nat.{◌+◌, ◌≤◌, ◌-◌}
 use native.Mathlib.Omega.{arith}
 use borrow.Author.Rules.{rules}
 use Rattle.geometry.specs.Rings.{Ring, ring_of, point_at, next}
-use Rattle.rules.specs.Simple.{search as searchOf}
+use Rattle.rules.specs.Simple.{search as search_of}
 use Rattle.rules.specs.Simple.{search_side, sides_cross}
 use Rattle.crossing.specs.Right.{right_of}
 use Rattle.pairs.proofs.Sides.{next_inner}
@@ -15,13 +15,13 @@ use Rattle.crossing.proofs.simple.sides_cross.Tie as tie
 
 abbrev invariant-loop : tie.invariant-loop
 invariant-loop ring n crossed₀ last i a b right₀ j₀ i-end crossed right j =
-    (i + 2 ≤ j) × (j ≤ last) × (crossed ≡ false) × ((search_side (ring_of ring n) i (j - (i + 1)) (searchOf (ring_of ring n) i)).crossed ≡ false) × (right ≡ right_of a b (point_at ring j))
+    (i + 2 ≤ j) × (j ≤ last) × (crossed ≡ false) × ((search_side (ring_of ring n) i (j - (i + 1)) (search_of (ring_of ring n) i)).crossed ≡ false) × (right ≡ right_of a b (point_at ring j))
 
 abbrev decreases-loop : tie.decreases-loop
 decreases-loop ring n crossed₀ last i a b right₀ j₀ i-end crossed right j = last - j
 
 abbrev invariant-sides : tie.invariant-sides
-invariant-sides ring n crossed₀ last i₀ i-end crossed i = (i + 2 ≤ n) × (crossed ≡ false) × ((searchOf (ring_of ring n) i).crossed ≡ false)
+invariant-sides ring n crossed₀ last i₀ i-end crossed i = (i + 2 ≤ n) × (crossed ≡ false) × ((search_of (ring_of ring n) i).crossed ≡ false)
 
 abbrev decreases-sides : tie.decreases-sides
 decreases-sides ring n crossed₀ last i₀ i-end crossed i = n - i
@@ -126,7 +126,7 @@ pair : (c : tie.After-cross-between invariant-loop decreases-loop invariant-side
     let at-sides : tie.At-sides invariant-loop decreases-loop invariant-sides decreases-sides = search in
     let at-loop : tie.At-loop invariant-loop decreases-loop invariant-sides decreases-sides = search in
     let r : Ring = ring_of entry.args.ring.now entry.args.n in
-    (search_side r at-sides.sides.i (at-loop.loop.j + 1 - (at-sides.sides.i + 1)) (searchOf r at-sides.sides.i)).crossed ≡ c.cross-between.result
+    (search_side r at-sides.sides.i (at-loop.loop.j + 1 - (at-sides.sides.i + 1)) (search_of r at-sides.sides.i)).crossed ≡ c.cross-between.result
 pair c =
     let at-point-at5 : tie.After-point-at5 invariant-loop decreases-loop invariant-sides decreases-sides = search in
     let at-point-at4 : tie.After-point-at4 invariant-loop decreases-loop invariant-sides decreases-sides = search in
@@ -145,7 +145,7 @@ pair c =
     let next-i = next_inner a.n s.i {k = next a.n s.i} (omega (arith, at-sides-test.sides-test.taken)) refl (omega (arith, at-sides-test.sides-test.taken)) in
     let next-j = next_inner a.n t.j {k = next a.n t.j} (omega (arith, l)) refl (omega (arith, l)) in
     let e = sides-cross r s.i t.j (s.i + 1) (t.j + 1) _ _ _ _ _ c.cross-between.ensures at-point-at.point_at.ensures at-point-at2.point-at2.ensures (sym next-i) at-point-at4.point-at4.ensures at-point-at5.point-at5.ensures (sym next-j) in
-    side_more r s.i t.j (searchOf r s.i) c.cross-between.result (omega (arith, t.inv.0)) (tested r s.i t.j (search_side r s.i (t.j - (s.i + 1)) (searchOf r s.i)) _ t.inv.3 (not_neighbours a.n s.i t.j t.inv.0 (omega (arith, l))) e)
+    side_more r s.i t.j (search_of r s.i) c.cross-between.result (omega (arith, t.inv.0)) (tested r s.i t.j (search_side r s.i (t.j - (s.i + 1)) (search_of r s.i)) _ t.inv.3 (not_neighbours a.n s.i t.j t.inv.0 (omega (arith, l))) e)
 
 loop-again : tie.Need-loop-preserved invariant-loop decreases-loop invariant-sides decreases-sides
 loop-again c =
@@ -170,7 +170,7 @@ whole : (c : tie.After-crosses-closing invariant-loop decreases-loop invariant-s
     → let entry : tie.Start invariant-loop decreases-loop invariant-sides decreases-sides = search in
     let at-sides : tie.At-sides invariant-loop decreases-loop invariant-sides decreases-sides = search in
     let r : Ring = ring_of entry.args.ring.now entry.args.n in
-    (search_side r at-sides.sides.i (r.size - (at-sides.sides.i + 1)) (searchOf r at-sides.sides.i)).crossed ≡ c.crosses-closing.result
+    (search_side r at-sides.sides.i (r.size - (at-sides.sides.i + 1)) (search_of r at-sides.sides.i)).crossed ≡ c.crosses-closing.result
 whole c =
     let at-loop : tie.At-loop invariant-loop decreases-loop invariant-sides decreases-sides = search in
     let at-sides-test : tie.In-sides invariant-loop decreases-loop invariant-sides decreases-sides = search in

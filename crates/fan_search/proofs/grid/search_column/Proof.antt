@@ -4,7 +4,7 @@ use Prim.Native.Nat.{◌≤◌, ◌-◌}
 use native.Mathlib.Omega.{arith}
 use Rattle.geometry.specs.Rings.{node_ring}
 use Rattle.geometry.specs.Domain.{rings}
-use Rattle.rules.specs.Fan.{searchColumn}
+use Rattle.rules.specs.Fan.{search_column}
 use Rattle.fan_search.specs.Squares.{Squared}
 use Rattle.fan_search.specs.Values.{boxed, centred}
 use Rattle.fan_search.proofs.Searching.{column_none, column_more}
@@ -12,7 +12,7 @@ use Rattle.fan_search.proofs.grid.search_column.Statement.{statement}
 use Rattle.fan_search.proofs.grid.search_column.Tie as tie
 
 abbrev invariant-loop : tie.invariant-loop
-invariant-loop coords loops points nodes b i found₀ j₀ found j = (j ≤ 13) × Squared found × (centred found ≡ searchColumn (rings coords loops) (node_ring points nodes) (boxed b) i j (centred found₀))
+invariant-loop coords loops points nodes b i found₀ j₀ found j = (j ≤ 13) × Squared found × (centred found ≡ search_column (rings coords loops) (node_ring points nodes) (boxed b) i j (centred found₀))
 
 abbrev decreases-loop : tie.decreases-loop
 decreases-loop coords loops points nodes b i found₀ j₀ found j = 13 - j

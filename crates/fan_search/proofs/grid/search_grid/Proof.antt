@@ -3,7 +3,7 @@ use mathlib.Core.Path.{◌≡◌}
 use Prim.Native.Nat.{◌≤◌, ◌-◌}
 use Rattle.geometry.specs.Rings.{node_ring}
 use Rattle.geometry.specs.Domain.{rings}
-use Rattle.rules.specs.Fan.{searchGrid}
+use Rattle.rules.specs.Fan.{search_grid}
 use Rattle.fan_search.specs.Squares.{Squared}
 use Rattle.fan_search.specs.Values.{boxed, centred}
 use Rattle.fan_search.proofs.Searching.{grid_none, grid_more}
@@ -13,7 +13,7 @@ use Rattle.fan_search.proofs.grid.search_grid.Statement.{statement}
 use Rattle.fan_search.proofs.grid.search_grid.Tie as tie
 
 abbrev invariant-loop : tie.invariant-loop
-invariant-loop coords loops points nodes b found₀ i₀ found i = (i ≤ 13) × Squared found × (centred found ≡ searchGrid (rings coords loops) (node_ring points nodes) (boxed b) i (centred found₀))
+invariant-loop coords loops points nodes b found₀ i₀ found i = (i ≤ 13) × Squared found × (centred found ≡ search_grid (rings coords loops) (node_ring points nodes) (boxed b) i (centred found₀))
 
 abbrev decreases-loop : tie.decreases-loop
 decreases-loop coords loops points nodes b found₀ i₀ found i = 13 - i

@@ -14,11 +14,11 @@ use Rattle.job.proofs.call.job.Statement.{statement}
 use Rattle.job.proofs.call.job.Tie as tie
 
 -- the lengths of the buffers, and the job
-abbrev lengthsAt : tie.Start → Lengths
-lengthsAt s = lengths_of (length s.args.points.now) (length s.args.quads.now) (length s.args.front-nodes.now) (length s.args.front-lengths.now)
+abbrev lengths_at : tie.Start → Lengths
+lengths_at s = lengths_of (length s.args.points.now) (length s.args.quads.now) (length s.args.front-nodes.now) (length s.args.front-lengths.now)
 
-abbrev jobAt : tie.Start → Job
-jobAt s = job s.args.coords.now s.args.loop-lengths.now s.args.h s.args.options
+abbrev job_at : tie.Start → Job
+job_at s = job s.args.coords.now s.args.loop-lengths.now s.args.h s.args.options
 
 -- ---- the job was sampled
 
@@ -29,20 +29,20 @@ abbrev entry : tie.After-sample → tie.Start
 entry c = search
 
 -- what sampling leaves in the buffers, with no counts yet
-abbrev leftBy : tie.After-sample → Held
-leftBy c =
+abbrev left_by : tie.After-sample → Held
+left_by c =
     let last = c.sample.new.1.1.1.1 in
     held last.0 last.1.0 last.1.1.0 last.1.1.1.0 no_counts
 
-abbrev heldThen : tie.After-start → Held
-heldThen c =
-    let b = leftBy (sampled-at c) in
+abbrev held_then : tie.After-start → Held
+held_then c =
+    let b = left_by (sampled-at c) in
     held b.points b.quads b.front_nodes b.front_lengths c.start.given.0.0
 
-start_of : (c : tie.After-start) → Started (jobAt (entry (sampled-at c))) (lengthsAt (entry (sampled-at c))) (heldThen c)
+start_of : (c : tie.After-start) → Started (job_at (entry (sampled-at c))) (lengths_at (entry (sampled-at c))) (held_then c)
 start_of c =
     let start = entry (sampled-at c) in
-    started (jobAt start) (lengthsAt start) c.start.given.0.0 (leftBy (sampled-at c)) (sym (ap (λ r. left r (leftBy (sampled-at c))) c.start.given.1) ∙ (sampled-at c).sample.ensures)
+    started (job_at start) (lengths_at start) c.start.given.0.0 (left_by (sampled-at c)) (sym (ap (λ r. left r (left_by (sampled-at c))) c.start.given.1) ∙ (sampled-at c).sample.ensures)
 
 sample-requires : tie.Need-sample-requires
 sample-requires c κs = search rules
@@ -57,9 +57,9 @@ pave-requires : tie.Need-pave-requires
 pave-requires c κs =
     let at-start : tie.After-start = search in
     let start = entry (sampled-at at-start) in
-    let j = jobAt start in
-    let l = lengthsAt start in
-    let b = heldThen at-start in
+    let j = job_at start in
+    let l = lengths_at start in
+    let b = held_then at-start in
     let s = start_of at-start in
     (start_sound j l b s, (start-clean j l b s, (start_passes j l b s, start_outline j l b s)))
 
@@ -80,7 +80,7 @@ returns c =
     let at_n : tie.After-n = search in
     let at-sample : tie.After-sample = search in
     let start : tie.Start = search in
-    sample_refused (jobAt start) (lengthsAt start) _ (leftBy at-sample) (rw at_n.n.given.1 at at-sample.sample.ensures)
+    sample_refused (job_at start) (lengths_at start) _ (left_by at-sample) (rw at_n.n.given.1 at at-sample.sample.ensures)
 
 same-length-5 : tie.Need-same-length-5
 same-length-5 c = search rules
@@ -102,8 +102,8 @@ returns-2 c =
     let kept = (sampled-at at-start).sample.kept.1.1.1.1 in
     let same = same_lengths _ _ _ _ (length start.args.points.now) (length start.args.quads.now) (length start.args.front-nodes.now) (length start.args.front-lengths.now) kept.0 kept.1.0 kept.1.1.0 kept.1.1.1.0 in
     at-pave.pave.ensures
-    ∙ ap (λ l. job_left l (and_then (some_passes (jobAt start) start.args.options.max_row_rounds (reading (heldThen at-start))) (closings start.args.options.corner_limit))) same
-    ∙ sym (onward (jobAt start) (lengthsAt start) (heldThen at-start) (start_of at-start))
+    ∙ ap (λ l. job_left l (and_then (some_passes (job_at start) start.args.options.max_row_rounds (reading (held_then at-start))) (closings start.args.options.corner_limit))) same
+    ∙ sym (onward (job_at start) (lengths_at start) (held_then at-start) (start_of at-start))
 
 pub job-spec : {M : Type 1} → statement M
 job-spec =

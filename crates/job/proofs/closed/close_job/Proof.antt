@@ -13,8 +13,8 @@ use Rattle.job.proofs.closed.close_job.Tie as tie
 abbrev given : tie.Start → Held
 given s = held s.args.points.now s.args.quads.now s.args.front-nodes.now s.args.front-lengths.now s.args.counts
 
-abbrev lengthsAt : tie.Start → Lengths
-lengthsAt s = lengths_of (length s.args.points.now) (length s.args.quads.now) (length s.args.front-nodes.now) (length s.args.front-lengths.now)
+abbrev lengths_at : tie.Start → Lengths
+lengths_at s = lengths_of (length s.args.points.now) (length s.args.quads.now) (length s.args.front-nodes.now) (length s.args.front-lengths.now)
 
 close-small-fronts-requires : tie.Need-close-small-fronts-requires
 close-small-fronts-requires c κs = search rules
@@ -47,7 +47,7 @@ returns c =
     let at-close-small-fronts : tie.After-close-small-fronts = search in
     let start : tie.Start = search in
     let closed = at-close-small-fronts.close-small-fronts in
-    cleared (lengthsAt start) _ _
+    cleared (lengths_at start) _ _
     (state_refused (given start) _ _ _ (rw at_n.n.given.1 at closed.ensures)) _
     (at-clear-all.clear-all.ensures
     ∙ ap zeros (same_lengths _ _ _ _ (length start.args.points.now) (length start.args.quads.now) (length start.args.front-nodes.now) (length start.args.front-lengths.now) closed.kept.0 closed.kept.1.0 closed.kept.1.1.0 closed.kept.1.1.1.0))
@@ -70,7 +70,7 @@ returns-2 c =
     let at-close-small-fronts : tie.After-close-small-fronts = search in
     let start : tie.Start = search in
     let closed = at-close-small-fronts.close-small-fronts in
-    state_done (given start) _ (lengthsAt start) _ (held closed.last.0 closed.last.1.0 closed.last.1.1.0 closed.last.1.1.1.0 start.args.counts)
+    state_done (given start) _ (lengths_at start) _ (held closed.last.0 closed.last.1.0 closed.last.1.1.0 closed.last.1.1.1.0 start.args.counts)
     (rw at_c.c.given.1 at closed.ensures)
 
 pub close-job-spec : {M : Type 1} → statement M

@@ -20,14 +20,14 @@ use Rattle.job.proofs.paved.pave.Tie as tie
 abbrev given : tie.Start → Held
 given s = held s.args.points.now s.args.quads.now s.args.front-nodes.now s.args.front-lengths.now s.args.counts
 
-abbrev lengthsAt : tie.Start → Lengths
-lengthsAt s = lengths_of (length s.args.points.now) (length s.args.quads.now) (length s.args.front-nodes.now) (length s.args.front-lengths.now)
+abbrev lengths_at : tie.Start → Lengths
+lengths_at s = lengths_of (length s.args.points.now) (length s.args.quads.now) (length s.args.front-nodes.now) (length s.args.front-lengths.now)
 
-abbrev jobAt : tie.Start → Job
-jobAt s = job s.args.coords.now s.args.loop-lengths.now s.args.h s.args.options
+abbrev job_at : tie.Start → Job
+job_at s = job s.args.coords.now s.args.loop-lengths.now s.args.h s.args.options
 
 abbrev rows : tie.Start → Outcome State
-rows s = some_passes (jobAt s) s.args.options.max_row_rounds (reading (given s))
+rows s = some_passes (job_at s) s.args.options.max_row_rounds (reading (given s))
 
 -- ---- the passes are done: what is held then is sound and clean, and it is what they give
 
@@ -38,21 +38,21 @@ abbrev start-at : tie.After-some-passes → tie.Start
 start-at c = search
 
 -- what the passes leave in the buffers, with the counts of the start
-abbrev leftBy : tie.After-some-passes → Held
-leftBy c =
+abbrev left_by : tie.After-some-passes → Held
+left_by c =
     let last = c.some-passes.new.1.1.1.1.1 in
     held last.0 last.1.0 last.1.1.0 last.1.1.1.0 (start-at c).args.counts
 
-abbrev heldThen : tie.After-laid → Held
-heldThen c =
-    let b = leftBy (passed-at c) in
+abbrev held_then : tie.After-laid → Held
+held_then c =
+    let b = left_by (passed-at c) in
     held b.points b.quads b.front_nodes b.front_lengths c.laid.given.0.0
 
-done : (c : tie.After-laid) → Sound (heldThen c) × Clean (heldThen c) × (rows (start-at (passed-at c)) ≡ gives (reading (heldThen c)))
+done : (c : tie.After-laid) → Sound (held_then c) × Clean (held_then c) × (rows (start-at (passed-at c)) ≡ gives (reading (held_then c)))
 done c =
     let start = start-at (passed-at c) in
-    passes_done (jobAt start) start.args.options.max_row_rounds (given start) start.pre.0 (leftBy (passed-at c)) _
-    (sym (ap (λ r. passed r (leftBy (passed-at c))) c.laid.given.1) ∙ (passed-at c).some-passes.ensures)
+    passes_done (job_at start) start.args.options.max_row_rounds (given start) start.pre.0 (left_by (passed-at c)) _
+    (sym (ap (λ r. passed r (left_by (passed-at c))) c.laid.given.1) ∙ (passed-at c).some-passes.ensures)
 
 some-passes-requires : tie.Need-some-passes-requires
 some-passes-requires c κs = search rules
@@ -92,8 +92,8 @@ returns c =
     let start : tie.Start = search in
     let ran = at-some-passes.some-passes in
     let kept = ran.kept.1.1.1.1.1 in
-    let r = passes_refused (jobAt start) start.args.options.max_row_rounds (given start) start.pre.0 (leftBy at-some-passes) _ (rw at_n.n.given.1 at ran.ensures) in
-    cleared (lengthsAt start) _ _ (refused_first (rows start) (closings start.args.options.corner_limit) _ r) _
+    let r = passes_refused (job_at start) start.args.options.max_row_rounds (given start) start.pre.0 (left_by at-some-passes) _ (rw at_n.n.given.1 at ran.ensures) in
+    cleared (lengths_at start) _ _ (refused_first (rows start) (closings start.args.options.corner_limit) _ r) _
     (at-clear-all.clear-all.ensures
     ∙ ap zeros (same_lengths _ _ _ _ (length start.args.points.now) (length start.args.quads.now) (length start.args.front-nodes.now) (length start.args.front-lengths.now) kept.0 kept.1.0 kept.1.1.0 kept.1.1.1.0))
 
@@ -117,8 +117,8 @@ returns-2 c =
     let kept = (passed-at at-laid).some-passes.kept.1.1.1.1.1 in
     let same = same_lengths _ _ _ _ (length start.args.points.now) (length start.args.quads.now) (length start.args.front-nodes.now) (length start.args.front-lengths.now) kept.0 kept.1.0 kept.1.1.0 kept.1.1.1.0 in
     at-close-job.close-job.ensures
-    ∙ ap (λ l. job_left l (closings start.args.options.corner_limit (reading (heldThen at-laid)))) same
-    ∙ ap (job_left (lengthsAt start)) (given_first (rows start) (closings start.args.options.corner_limit) _ (done at-laid).2)
+    ∙ ap (λ l. job_left l (closings start.args.options.corner_limit (reading (held_then at-laid)))) same
+    ∙ ap (job_left (lengths_at start)) (given_first (rows start) (closings start.args.options.corner_limit) _ (done at-laid).2)
 
 pub pave-spec : {M : Type 1} → statement M
 pave-spec =

@@ -31,8 +31,8 @@ given s = held s.args.points.now s.args.quads.now s.args.front-nodes.now s.args.
 sound : (s : tie.Start invariant-loop decreases-loop) → Sound (given s)
 sound s = s.requires.0
 
-abbrev jobAt : tie.Start invariant-loop decreases-loop → Job
-jobAt s = job s.args.coords.now s.args.loop-lengths.now s.args.h s.args.options
+abbrev job_at : tie.Start invariant-loop decreases-loop → Job
+job_at s = job s.args.coords.now s.args.loop-lengths.now s.args.h s.args.options
 
 -- ---- past the order
 
@@ -60,8 +60,8 @@ inside c = search
 abbrev held_at : tie.At-loop invariant-loop decreases-loop → Held
 held_at c = held c.loop.points c.loop.quads c.loop.front-nodes c.loop.front-lengths c.loop.c
 
-abbrev heldAfter : tie.After-next-row invariant-loop decreases-loop → Held
-heldAfter c =
+abbrev held_after : tie.After-next-row invariant-loop decreases-loop → Held
+held_after c =
     let last = c.next_row.new.1.1.1.1.1 in
     held last.0 last.1.0 last.1.1.0 last.1.1.1.0 (looping c).loop.c
 
@@ -108,7 +108,7 @@ loop-holds c =
     let at-begun : tie.After-begun invariant-loop decreases-loop = search in
     let at-pass-order : tie.After-pass-order invariant-loop decreases-loop = search in
     let entry = start at-pass-order in
-    (pass_begins (jobAt entry) (given entry) _ at-begun.begun.ensures at-pass-order.pass-order.result (sound entry) entry.pre.1.0, omega arith)
+    (pass_begins (job_at entry) (given entry) _ at-begun.begun.ensures at-pass-order.pass-order.result (sound entry) entry.pre.1.0, omega arith)
 
 mul-li : tie.Need-overflow-mul-li invariant-loop decreases-loop
 mul-li c =
@@ -172,8 +172,8 @@ returns c =
     let entry = start p in
     let b = given entry in
     let more = (inside at-next-row).loop-test.taken in
-    pass_full (jobAt entry) b (beginning at-loop).begun.result (beginning at-loop).begun.ensures p.pass-order.result (order-found p) (heldAfter at-next-row)
-    (rowed_full (jobAt entry) b.counts.fronts p.pass-order.result _ (order_long b (sound entry) p.pass-order.result (order-found p)) at-loop.loop.k (held_at at-loop) at-loop.loop.inv.0 more at-next-row.next_row.result (heldAfter at-next-row) at-next-row.next_row.ensures (sym at-is-full.is-full.ensures ∙ c.if1.true))
+    pass_full (job_at entry) b (beginning at-loop).begun.result (beginning at-loop).begun.ensures p.pass-order.result (order-found p) (held_after at-next-row)
+    (rowed_full (job_at entry) b.counts.fronts p.pass-order.result _ (order_long b (sound entry) p.pass-order.result (order-found p)) at-loop.loop.k (held_at at-loop) at-loop.loop.inv.0 more at-next-row.next_row.result (held_after at-next-row) at-next-row.next_row.ensures (sym at-is-full.is-full.ensures ∙ c.if1.true))
 
 counts-after-requires : tie.Need-counts-after-requires invariant-loop decreases-loop
 counts-after-requires c κs = search rules
@@ -195,8 +195,8 @@ loop-again c =
     let entry = start p in
     let b = given entry in
     let more = (inside at-next-row).loop-test.taken in
-    let l = heldAfter at-next-row in
-    (rowed_more (jobAt entry) b.counts.fronts p.pass-order.result _ (order_long b (sound entry) p.pass-order.result (order-found p)) at-loop.loop.k (held_at at-loop) at-loop.loop.inv.0 more at-next-row.next_row.result l at-next-row.next_row.ensures (sym at-is-full.is-full.ensures ∙ at-else.if1.left) _ (ap (held l.points l.quads l.front_nodes l.front_lengths) at-counts-after.counts-after.ensures), omega arith)
+    let l = held_after at-next-row in
+    (rowed_more (job_at entry) b.counts.fronts p.pass-order.result _ (order_long b (sound entry) p.pass-order.result (order-found p)) at-loop.loop.k (held_at at-loop) at-loop.loop.inv.0 more at-next-row.next_row.result l at-next-row.next_row.ensures (sym at-is-full.is-full.ensures ∙ at-else.if1.left) _ (ap (held l.points l.quads l.front_nodes l.front_lengths) at-counts-after.counts-after.ensures), omega arith)
 
 same-length-5 : tie.Need-same-length-5 invariant-loop decreases-loop
 same-length-5 c =
@@ -228,8 +228,8 @@ returns-2 c =
     let p = ordering at-loop in
     let entry = start p in
     let b = given entry in
-    pass_done (jobAt entry) b (beginning at-loop).begun.result (beginning at-loop).begun.ensures p.pass-order.result (order-found p) (held_at at-loop) at-loop.loop.inv.0.clean
-    (rowed_all (jobAt entry) b.counts.fronts p.pass-order.result _ (order_long b (sound entry) p.pass-order.result (order-found p)) at-loop.loop.k (held_at at-loop) at-loop.loop.inv.0 (omega arith))
+    pass_done (job_at entry) b (beginning at-loop).begun.result (beginning at-loop).begun.ensures p.pass-order.result (order-found p) (held_at at-loop) at-loop.loop.inv.0.clean
+    (rowed_all (job_at entry) b.counts.fronts p.pass-order.result _ (order_long b (sound entry) p.pass-order.result (order-found p)) at-loop.loop.k (held_at at-loop) at-loop.loop.inv.0 (omega arith))
 
 pub one-pass-spec : {M : Type 1} → statement M
 one-pass-spec =

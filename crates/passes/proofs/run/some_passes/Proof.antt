@@ -21,8 +21,8 @@ decreases-loop coords loop-lengths h options most points₀ quads₀ front-nodes
 abbrev given : tie.Start invariant-loop decreases-loop → Held
 given s = held s.args.points.now s.args.quads.now s.args.front-nodes.now s.args.front-lengths.now s.args.counts
 
-abbrev jobAt : tie.Start invariant-loop decreases-loop → Job
-jobAt s = job s.args.coords.now s.args.loop-lengths.now s.args.h s.args.options
+abbrev job_at : tie.Start invariant-loop decreases-loop → Job
+job_at s = job s.args.coords.now s.args.loop-lengths.now s.args.h s.args.options
 
 -- ---- in the loop
 
@@ -39,15 +39,15 @@ inside c = search
 abbrev held_at : tie.At-loop invariant-loop decreases-loop → Held
 held_at c = held c.loop.points c.loop.quads c.loop.front-nodes c.loop.front-lengths c.loop.c
 
-abbrev heldAfter : tie.After-one-pass invariant-loop decreases-loop → Held
-heldAfter c =
+abbrev held_after : tie.After-one-pass invariant-loop decreases-loop → Held
+held_after c =
     let last = c.one-pass.new.1.1.1.1 in
     held last.0 last.1.0 last.1.1.0 last.1.1.1.0 (looping c).loop.c
 
 loop-holds : tie.Need-loop-init invariant-loop decreases-loop
 loop-holds c =
     let entry : tie.Start invariant-loop decreases-loop = search in
-    (ran_none (jobAt entry) entry.args.most (given entry) entry.pre.0 entry.pre.1.0, omega arith)
+    (ran_none (job_at entry) entry.args.most (given entry) entry.pre.0 entry.pre.1.0, omega arith)
 
 one-pass-requires : tie.Need-one-pass-requires invariant-loop decreases-loop
 one-pass-requires c κs =
@@ -103,7 +103,7 @@ returns c =
     let at-loop = looping at-one-pass in
     let entry = start at-loop in
     let more = (inside at-one-pass).loop-test.taken in
-    ran_refused (jobAt entry) entry.args.most (given entry) at-loop.loop.counter (held_at at-loop) at-loop.loop.inv.0 more at-one-pass.one-pass.result (heldAfter at-one-pass) at-one-pass.one-pass.ensures _ at_told.enum_told.given.1 _
+    ran_refused (job_at entry) entry.args.most (given entry) at-loop.loop.counter (held_at at-loop) at-loop.loop.inv.0 more at-one-pass.one-pass.result (held_after at-one-pass) at-one-pass.one-pass.ensures _ at_told.enum_told.given.1 _
 
 same-length-5 : tie.Need-same-length-5 invariant-loop decreases-loop
 same-length-5 c =
@@ -144,7 +144,7 @@ returns-2 c =
     let at-loop = looping at-one-pass in
     let entry = start at-loop in
     let more = (inside at-one-pass).loop-test.taken in
-    ran_last (jobAt entry) entry.args.most (given entry) at-loop.loop.counter (held_at at-loop) at-loop.loop.inv.0 more at-one-pass.one-pass.result (heldAfter at-one-pass) at-one-pass.one-pass.ensures _ at-answer.answer.given.1 c.if1.true _ refl
+    ran_last (job_at entry) entry.args.most (given entry) at-loop.loop.counter (held_at at-loop) at-loop.loop.inv.0 more at-one-pass.one-pass.result (held_after at-one-pass) at-one-pass.one-pass.ensures _ at-answer.answer.given.1 c.if1.true _ refl
 
 add-counter : tie.Need-overflow-add-counter invariant-loop decreases-loop
 add-counter c =
@@ -163,7 +163,7 @@ loop-again c =
     let at-loop = looping at-one-pass in
     let entry = start at-loop in
     let more = (inside at-one-pass).loop-test.taken in
-    (ran_more (jobAt entry) entry.args.most (given entry) at-loop.loop.counter (held_at at-loop) at-loop.loop.inv.0 more at-one-pass.one-pass.result (heldAfter at-one-pass) at-one-pass.one-pass.ensures _ at-answer.answer.given.1 at-else.if1.left, omega arith)
+    (ran_more (job_at entry) entry.args.most (given entry) at-loop.loop.counter (held_at at-loop) at-loop.loop.inv.0 more at-one-pass.one-pass.result (held_after at-one-pass) at-one-pass.one-pass.ensures _ at-answer.answer.given.1 at-else.if1.left, omega arith)
 
 same-length-9 : tie.Need-same-length-9 invariant-loop decreases-loop
 same-length-9 c =
@@ -193,7 +193,7 @@ returns-3 : tie.Need-returns-3 invariant-loop decreases-loop
 returns-3 c =
     let at-loop : tie.At-loop invariant-loop decreases-loop = search in
     let entry = start at-loop in
-    ran_all (jobAt entry) entry.args.most (given entry) at-loop.loop.counter (held_at at-loop) at-loop.loop.inv.0 (omega arith)
+    ran_all (job_at entry) entry.args.most (given entry) at-loop.loop.counter (held_at at-loop) at-loop.loop.inv.0 (omega arith)
 
 pub some-passes-spec : {M : Type 1} → statement M
 some-passes-spec =

@@ -14,16 +14,16 @@ use Rattle.placing.proofs.place.place.Statement.{statement}
 use Rattle.placing.proofs.place.place.Tie as tie
 
 abbrev invariant-loop : tie.invariant-loop
-invariant-loop pts n back h cornerMargin lengths spans longer points₀ at placed₀ i₀ points placed i =
+invariant-loop pts n back h corner_margin lengths spans longer points₀ at placed₀ i₀ points placed i =
     let r = turned_if back (ring_of pts n) in
     (i ≤ n)
-    × (placed * 2 ≡ length (laid.placed h cornerMargin r i))
-    × (points ≡ sets points₀ (at * 2) (laid.placed h cornerMargin r i))
+    × (placed * 2 ≡ length (laid.placed h corner_margin r i))
+    × (points ≡ sets points₀ (at * 2) (laid.placed h corner_margin r i))
     × (length points ≡ length points₀)
-    × (placed ≤ plans.planned h cornerMargin r)
+    × (placed ≤ plans.planned h corner_margin r)
 
 abbrev decreases-loop : tie.decreases-loop
-decreases-loop pts n back h cornerMargin lengths spans longer points₀ at placed₀ i₀ points placed i = n - i
+decreases-loop pts n back h corner_margin lengths spans longer points₀ at placed₀ i₀ points placed i = n - i
 
 loop-holds : tie.Need-loop-init invariant-loop decreases-loop
 unfolding laid.placed
@@ -62,7 +62,7 @@ fits : (c : tie.In-loop invariant-loop decreases-loop)
     → let start = start_of c in
     let l = c.before.loop in
     (l.placed + 1 + plans.parts start.args.h start.args.corner-margin (turned_ring start) l.i ≤ plans.planned start.args.h start.args.corner-margin (turned_ring start))
-    × (laid.placedOn start.args.h start.args.corner-margin (turned_ring start) l.i ≤ plans.parts start.args.h start.args.corner-margin (turned_ring start) l.i)
+    × (laid.placed_on start.args.h start.args.corner-margin (turned_ring start) l.i ≤ plans.parts start.args.h start.args.corner-margin (turned_ring start) l.i)
 fits c =
     let start = start_of c in
     let l = c.before.loop in

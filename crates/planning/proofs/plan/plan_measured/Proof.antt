@@ -19,7 +19,7 @@ invariant-loop n h lengths spans₀ first sum₀ best₀ start₀ i₀ spans sum
     × (length spans ≡ length spans₀)
     × (sum ≤ 2049)
     × ((k : ℕ) → i ≤ k → k < n → get_or spans k nan ≡ get_or spans₀ k nan)
-    × ((cornerMargin : Float) (r : Ring) → Measured h cornerMargin r n lengths spans₀ → Sofar h cornerMargin r n i sum best.side best.length start spans)
+    × ((corner_margin : Float) (r : Ring) → Measured h corner_margin r n lengths spans₀ → Sofar h corner_margin r n i sum best.side best.length start spans)
 
 abbrev decreases-loop : tie.decreases-loop
 decreases-loop n h lengths spans₀ first sum₀ best₀ start₀ i₀ spans sum best start i = n - i

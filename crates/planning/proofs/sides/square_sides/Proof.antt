@@ -17,7 +17,7 @@ use Rattle.planning.proofs.sides.square_sides.Statement.{statement}
 use Rattle.planning.proofs.sides.square_sides.Tie as tie
 
 abbrev invariant-loop : tie.invariant-loop
-invariant-loop pts n back h cornerMargin squares₀ margins₀ b₀ d₀ i₀ squares margins b d i =
+invariant-loop pts n back h corner_margin squares₀ margins₀ b₀ d₀ i₀ squares margins b d i =
     let r = turned_if back (ring_of pts n) in
     (i ≤ n)
     × (length squares ≡ length squares₀)
@@ -25,10 +25,10 @@ invariant-loop pts n back h cornerMargin squares₀ margins₀ b₀ d₀ i₀ sq
     × (b ≡ r.at (corner n i))
     × (d ≡ toward (r.at (prev n (corner n i))) (r.at (corner n i)))
     × ((k : ℕ) → k < i → get_or squares k nan ≡ square (along r k))
-    × ((k : ℕ) → k < i → get_or margins k nan ≡ plans.margin h cornerMargin r k)
+    × ((k : ℕ) → k < i → get_or margins k nan ≡ plans.margin h corner_margin r k)
 
 abbrev decreases-loop : tie.decreases-loop
-decreases-loop pts n back h cornerMargin squares₀ margins₀ b₀ d₀ i₀ squares margins b d i = n - i
+decreases-loop pts n back h corner_margin squares₀ margins₀ b₀ d₀ i₀ squares margins b d i = n - i
 
 ring-point-requires : tie.Need-ring-point-requires invariant-loop decreases-loop
 ring-point-requires c κs =

@@ -19,13 +19,13 @@ use Rattle.row.proofs.call.row.Tie as tie
 abbrev given : tie.Start → Held
 given s = held s.args.points.now s.args.quads.now s.args.front-nodes.now s.args.front-lengths.now s.args.counts
 
-abbrev jobAt : tie.Start → Job
-jobAt s = job s.args.coords.now s.args.loop-lengths.now s.args.h s.args.options
+abbrev job_at : tie.Start → Job
+job_at s = job s.args.coords.now s.args.loop-lengths.now s.args.h s.args.options
 
 abbrev start : tie.After-input-number → tie.Start
 start c = search
 
-number : (c : tie.After-input-number) → c.input-number.result ≡ input_number (jobAt (start c)) (lengths (given (start c)))
+number : (c : tie.After-input-number) → c.input-number.result ≡ input_number (job_at (start c)) (lengths (given (start c)))
 number c = c.input-number.ensures
 
 -- ---- past the test of the input: the buffers have their lengths
@@ -34,7 +34,7 @@ abbrev input-at : tie.Else1 → tie.After-input-number
 input-at c = search
 
 right : (c : tie.Else1) → lengths (given (start (input-at c))) ≡ lengths_of points_length quads_length front_node_limit front_limit
-right c = right_lengths_lem (jobAt (start (input-at c))) (given (start (input-at c))) _ (number (input-at c)) c.if1.false
+right c = right_lengths_lem (job_at (start (input-at c))) (given (start (input-at c))) _ (number (input-at c)) c.if1.false
 
 -- ---- past the test of the state: it is sound, and the step decides
 
@@ -49,11 +49,11 @@ sound-at c =
     let at-wrong-state : tie.After-wrong-state = search in
     sound (given (entered c)) (right (else1 c)) (sym at-wrong-state.wrong-state.ensures ∙ c.if2.false)
 
-stood : (c : tie.Else2) (a : Left) → a ≡ state_left (given (entered c)) (row_at (jobAt (entered c)) (entered c).args.front (reading (given (entered c))))
-    → a ≡ on_state (input_number (jobAt (entered c)) (lengths (given (entered c)))) (given (entered c)) (row_at (jobAt (entered c)) (entered c).args.front)
+stood : (c : tie.Else2) (a : Left) → a ≡ state_left (given (entered c)) (row_at (job_at (entered c)) (entered c).args.front (reading (given (entered c))))
+    → a ≡ on_state (input_number (job_at (entered c)) (lengths (given (entered c)))) (given (entered c)) (row_at (job_at (entered c)) (entered c).args.front)
 stood c a e =
     let at-wrong-state : tie.After-wrong-state = search in
-    rw (← number (input-at (else1 c))) (state_stands (given (entered c)) (row_at (jobAt (entered c)) (entered c).args.front) _ (else1 c).if1.false _ at-wrong-state.wrong-state.ensures c.if2.false a e)
+    rw (← number (input-at (else1 c))) (state_stands (given (entered c)) (row_at (job_at (entered c)) (entered c).args.front) _ (else1 c).if1.false _ at-wrong-state.wrong-state.ensures c.if2.false a e)
 
 input-number-requires : tie.Need-input-number-requires
 input-number-requires c κs = search rules
@@ -63,7 +63,7 @@ unfolding row_call
 returns c =
     let at-input-number : tie.After-input-number = search in
     let entry = start at-input-number in
-    rw (← number at-input-number) (input_refuses (given entry) (row_at (jobAt entry) entry.args.front) _ c.if1.true)
+    rw (← number at-input-number) (input_refuses (given entry) (row_at (job_at entry) entry.args.front) _ c.if1.true)
 
 wrong-state-requires : tie.Need-wrong-state-requires
 wrong-state-requires c κs =
@@ -89,7 +89,7 @@ returns-2 c =
     let at-if1 : tie.Else1 = search in
     let at-input-number : tie.After-input-number = search in
     let entry = start at-input-number in
-    rw (← number at-input-number) (state_refuses (given entry) (row_at (jobAt entry) entry.args.front) _ at-if1.if1.left _ at-wrong-state.wrong-state.ensures c.if2.true)
+    rw (← number at-input-number) (state_refuses (given entry) (row_at (job_at entry) entry.args.front) _ at-if1.if1.left _ at-wrong-state.wrong-state.ensures c.if2.true)
 
 same-length-5 : tie.Need-same-length-5
 same-length-5 c = search rules
@@ -107,7 +107,7 @@ returns-3 : tie.Need-returns-3
 unfolding row_call
 returns-3 c =
     let at-if2 : tie.Else2 = search in
-    stood at-if2 _ (no_front (jobAt (entered at-if2)) (entered at-if2).args.front (given (entered at-if2)) (sound-at at-if2) c.if3.true)
+    stood at-if2 _ (no_front (job_at (entered at-if2)) (entered at-if2).args.front (given (entered at-if2)) (sound-at at-if2) c.if3.true)
 
 row-on-requires : tie.Need-row-on-requires
 row-on-requires c κs =
@@ -116,7 +116,7 @@ row-on-requires c κs =
     let at-if1 : tie.Else1 = search in
     let at-input-number : tie.After-input-number = search in
     let entry = start at-input-number in
-    (sound-at at-if2, ((λ h. absurd (true≢false (sym h))), (at-if3.if3.left, outline_read (jobAt entry) (given entry) _ (number at-input-number) at-if1.if1.left)))
+    (sound-at at-if2, ((λ h. absurd (true≢false (sym h))), (at-if3.if3.left, outline_read (job_at entry) (given entry) _ (number at-input-number) at-if1.if1.left)))
 
 same-length-9 : tie.Need-same-length-9
 same-length-9 c = search rules
@@ -136,7 +136,7 @@ returns-4 c =
     let at-row-on : tie.After-row-on = search in
     let at-if3 : tie.Else3 = search in
     let at-if2 : tie.Else2 = search in
-    stood at-if2 _ (a_front (jobAt (entered at-if2)) (entered at-if2).args.front (given (entered at-if2)) (sound-at at-if2) _ at-if3.if3.left at-row-on.row_on.ensures)
+    stood at-if2 _ (a_front (job_at (entered at-if2)) (entered at-if2).args.front (given (entered at-if2)) (sound-at at-if2) _ at-if3.if3.left at-row-on.row_on.ensures)
 
 pub row-spec : {M : Type 1} → statement M
 row-spec =

@@ -26,8 +26,8 @@ given s = held s.args.points.now s.args.quads.now s.args.front-nodes.now s.args.
 sound : (s : tie.Start) → Sound (given s)
 sound s = s.requires.0
 
-abbrev jobAt : tie.Start → Job
-jobAt s = job s.args.coords.now s.args.loop-lengths.now s.args.h s.args.options
+abbrev job_at : tie.Start → Job
+job_at s = job s.args.coords.now s.args.loop-lengths.now s.args.h s.args.options
 
 -- the front is there, and this is its length
 there : (s : tie.Start) → s.args.li < length (sizes_of (given s))
@@ -41,10 +41,10 @@ size_is s = get_or-take s.args.counts.fronts s.args.front-lengths.now s.args.li 
 abbrev start : tie.After-try-row → tie.Start
 start c = search
 
-abbrev rowAfter : tie.After-try-row → List Float
-rowAfter c = c.try-row.new.1.1.1.1.1.1.1.1.1.0
+abbrev row_after : tie.After-try-row → List Float
+row_after c = c.try-row.new.1.1.1.1.1.1.1.1.1.0
 
-row-long : (c : tie.After-try-row) → length (rowAfter c) ≡ length (start c).args.row.now
+row-long : (c : tie.After-try-row) → length (row_after c) ≡ length (start c).args.row.now
 row-long c = c.try-row.auto.1.1.1.1.1.1.1.1.1.0
 
 mul-end : tie.Need-overflow-mul-end
@@ -101,7 +101,7 @@ returns c =
     let at_tried : tie.After-tried = search in
     let at-try-row : tie.After-try-row = search in
     let entry = start at-try-row in
-    refuses (given entry) (sound entry) entry.args.li (there entry) (jobAt entry) _ _ at-try-row.try-row.ensures.0 at_tried.tried.given.1
+    refuses (given entry) (sound entry) entry.args.li (there entry) (job_at entry) _ _ at-try-row.try-row.ensures.0 at_tried.tried.given.1
 
 enum_told : tie.Need-enum-told
 enum_told c = search rules
@@ -147,7 +147,7 @@ slice-aggregate-lay-row c =
     let at-try-row : tie.After-try-row = search in
     let p = (start at-try-row).pre.1.1.1 in
     let long = row-long at-try-row in
-    let e = at_wide.wide.ensures in sym (length-take-le _ (rowAfter at-try-row) (omega arith))
+    let e = at_wide.wide.ensures in sym (length-take-le _ (row_after at-try-row) (omega arith))
 
 lay-row-requires : tie.Need-lay-row-requires
 lay-row-requires c κs =
@@ -160,9 +160,9 @@ lay-row-requires c κs =
     let p = entry.pre.1.1.1 in
     let long = row-long at-try-row in
     let we = at_wide.wide.ensures in
-    let m : length (take (at_wide.wide.result * 2) (rowAfter at-try-row)) ≡ get_or (sizes_of b) entry.args.li 0 * 2 = length-take-le _ (rowAfter at-try-row) (omega arith) ∙ ap (λ k. k * 2) (we ∙ sym (size_is entry)) in
+    let m : length (take (at_wide.wide.result * 2) (row_after at-try-row)) ≡ get_or (sizes_of b) entry.args.li 0 * 2 = length-take-le _ (row_after at-try-row) (omega arith) ∙ ap (λ k. k * 2) (we ∙ sym (size_is entry)) in
     let e = at-clear-behind.clear_behind.ensures in
-    (still_sound b (sound entry) _ e, (now_clean b (sound entry) _ e, same_room b (sound entry) _ e entry.args.li _ (has_room b (sound entry) entry.args.li (there entry) (jobAt entry) _ _ at-try-row.try-row.ensures.0 at-enum-told.enum_told.given.1 m)))
+    (still_sound b (sound entry) _ e, (now_clean b (sound entry) _ e, same_room b (sound entry) _ e entry.args.li _ (has_room b (sound entry) entry.args.li (there entry) (job_at entry) _ _ at-try-row.try-row.ensures.0 at-enum-told.enum_told.given.1 m)))
 
 same-length-5 : tie.Need-same-length-5
 same-length-5 c = search rules
@@ -189,8 +189,8 @@ returns-2 c =
     let entry = start at-try-row in
     let b = given entry in
     let stands = at-enum-told.enum_told.given.1 in
-    let new = row_read b (sound entry) entry.args.li (there entry) (jobAt entry) (rowAfter at-try-row) _ (at_wide.wide.ensures ∙ sym (size_is entry)) (at-try-row.try-row.ensures.1 (rw stands)) in
-    lays b (sound entry) entry.args.li (there entry) (jobAt entry) _ _ _ at-try-row.try-row.ensures.0 stands new (rw (same_state b (sound entry) _ at-clear-behind.clear_behind.ensures) at at-lay-row.lay-row.ensures)
+    let new = row_read b (sound entry) entry.args.li (there entry) (job_at entry) (row_after at-try-row) _ (at_wide.wide.ensures ∙ sym (size_is entry)) (at-try-row.try-row.ensures.1 (rw stands)) in
+    lays b (sound entry) entry.args.li (there entry) (job_at entry) _ _ _ at-try-row.try-row.ensures.0 stands new (rw (same_state b (sound entry) _ at-clear-behind.clear_behind.ensures) at at-lay-row.lay-row.ensures)
 
 pub row-in-spec : {M : Type 1} → statement M
 row-in-spec =

@@ -18,21 +18,21 @@ abbrev start : tie.After-all-inside → tie.Start
 start c = search
 
 -- what is tried, from the start: the job, the fronts, and what holds of the row's own front
-abbrev jobAt : tie.Start → Job
-jobAt s = job s.args.coords.now s.args.loop-lengths.now s.args.h s.args.options
+abbrev job_at : tie.Start → Job
+job_at s = job s.args.coords.now s.args.loop-lengths.now s.args.h s.args.options
 
-abbrev frontsAt : tie.Start → List (List ℕ)
-frontsAt s = cut s.args.lengths.now s.args.front-nodes.now
+abbrev fronts_at : tie.Start → List (List ℕ)
+fronts_at s = cut s.args.lengths.now s.args.front-nodes.now
 
-sized : (s : tie.Start) → s.args.front.len ≡ length (get_or (frontsAt s) s.args.li [])
+sized : (s : tie.Start) → s.args.front.len ≡ length (get_or (fronts_at s) s.args.li [])
 sized s = cut-length s.args.lengths.now s.args.front-nodes.now s.args.li s.requires.0.0 s.requires.1.0.1 s.args.front.len s.requires.0.2
 
-below : (s : tie.Start) (i : ℕ) → i < length (get_or (frontsAt s) s.args.li []) → get_or (get_or (frontsAt s) s.args.li []) i 0 * 2 + 1 < length s.args.points.now
+below : (s : tie.Start) (i : ℕ) → i < length (get_or (fronts_at s) s.args.li []) → get_or (get_or (fronts_at s) s.args.li []) i 0 * 2 + 1 < length s.args.points.now
 below s =
     let l = s.args.lengths.now in
     part_of_all l s.args.front-nodes.now s.args.li s.requires.0.0 s.requires.1.0.1 _ _ _ _ refl refl (cut_at l s.args.front-nodes.now s.args.li s.requires.0.0) s.requires.1.1
 
-old-is : (s : tie.Start) (f : List ℕ) → f ≡ take s.args.front.len (drop s.args.front.start s.args.front-nodes.now) → f ≡ get_or (frontsAt s) s.args.li []
+old-is : (s : tie.Start) (f : List ℕ) → f ≡ take s.args.front.len (drop s.args.front.start s.args.front-nodes.now) → f ≡ get_or (fronts_at s) s.args.li []
 old-is s f e = part_is s.args.lengths.now s.args.front-nodes.now s.args.li s.requires.0.0 s.requires.1.0.1 _ _ f s.requires.0.1 s.requires.0.2 e
 
 all-inside-requires : tie.Need-all-inside-requires
@@ -42,7 +42,7 @@ returns : tie.Need-returns
 returns c =
     let entry : tie.Start = search in
     let a = entry.args in
-    one_outside (jobAt entry) a.points.now (frontsAt entry) a.li a.row.now a.front.len (sized entry) entry.pre.1.0.2 (below entry) _ c.before.all-inside.ensures (not-true _ c.if1.true)
+    one_outside (job_at entry) a.points.now (fronts_at entry) a.li a.row.now a.front.len (sized entry) entry.pre.1.0.2 (below entry) _ c.before.all-inside.ensures (not-true _ c.if1.true)
 
 all-off-boundary-requires : tie.Need-all-off-boundary-requires
 all-off-boundary-requires c κs = search rules
@@ -52,7 +52,7 @@ returns-2 c =
     let at-all-inside : tie.After-all-inside = search in
     let entry : tie.Start = search in
     let a = entry.args in
-    one_at_boundary (jobAt entry) a.points.now (frontsAt entry) a.li a.row.now a.front.len (sized entry) entry.pre.1.0.2 (below entry) _ at-all-inside.all-inside.ensures (not-false _ c.before.before.if1.false) _ (rw twentieth_is at c.before.all-off-boundary.ensures) (not-true _ c.if2.true)
+    one_at_boundary (job_at entry) a.points.now (fronts_at entry) a.li a.row.now a.front.len (sized entry) entry.pre.1.0.2 (below entry) _ at-all-inside.all-inside.ensures (not-false _ c.before.before.if1.false) _ (rw twentieth_is at c.before.all-off-boundary.ensures) (not-true _ c.if2.true)
 
 nodes-of-requires : tie.Need-nodes-of-requires
 nodes-of-requires c κs =
@@ -79,7 +79,7 @@ returns-3 c =
     let entry = start at-all-inside in
     let a = entry.args in
     let e = old-is entry _ at-nodes-of.nodes-of.ensures in
-    one_quad_fails (jobAt entry) a.points.now (frontsAt entry) a.li a.row.now a.front.len (sized entry) entry.pre.1.0.2 (below entry) _ at-all-inside.all-inside.ensures (not-false _ at-if1.if1.left) _ (rw twentieth_is at at-all-off-boundary.all-off-boundary.ensures) (not-false _ at-if2.if2.left) _ e _ c.before.all-quads-stand.ensures (not-true _ c.if3.true)
+    one_quad_fails (job_at entry) a.points.now (fronts_at entry) a.li a.row.now a.front.len (sized entry) entry.pre.1.0.2 (below entry) _ at-all-inside.all-inside.ensures (not-false _ at-if1.if1.left) _ (rw twentieth_is at at-all-off-boundary.all-off-boundary.ensures) (not-false _ at-if2.if2.left) _ e _ c.before.all-quads-stand.ensures (not-true _ c.if3.true)
 
 clear-of-fronts-requires : tie.Need-clear-of-fronts-requires
 clear-of-fronts-requires c κs = search rules
@@ -96,7 +96,7 @@ returns-4 c =
     let entry = start at-all-inside in
     let a = entry.args in
     let e = old-is entry _ at-nodes-of.nodes-of.ensures in
-    one_near (jobAt entry) a.points.now (frontsAt entry) a.li a.row.now a.front.len (sized entry) entry.pre.1.0.2 (below entry) _ at-all-inside.all-inside.ensures (not-false _ at-if1.if1.left) _ (rw twentieth_is at at-all-off-boundary.all-off-boundary.ensures) (not-false _ at-if2.if2.left) _ e _ at-all-quads-stand.all-quads-stand.ensures (not-false _ at-if3.if3.left) _ c.before.clear-of-fronts.ensures (not-true _ c.if4.true)
+    one_near (job_at entry) a.points.now (fronts_at entry) a.li a.row.now a.front.len (sized entry) entry.pre.1.0.2 (below entry) _ at-all-inside.all-inside.ensures (not-false _ at-if1.if1.left) _ (rw twentieth_is at at-all-off-boundary.all-off-boundary.ensures) (not-false _ at-if2.if2.left) _ e _ at-all-quads-stand.all-quads-stand.ensures (not-false _ at-if3.if3.left) _ c.before.clear-of-fronts.ensures (not-true _ c.if4.true)
 
 is-simple-requires : tie.Need-is-simple-requires
 is-simple-requires c κs =
@@ -115,7 +115,7 @@ returns-5 c =
     let entry = start at-all-inside in
     let a = entry.args in
     let e = old-is entry _ at-nodes-of.nodes-of.ensures in
-    crossing_decides (jobAt entry) a.points.now (frontsAt entry) a.li a.row.now a.front.len (sized entry) entry.pre.1.0.2 (below entry) _ at-all-inside.all-inside.ensures (not-false _ at-if1.if1.left) _ (rw twentieth_is at at-all-off-boundary.all-off-boundary.ensures) (not-false _ at-if2.if2.left) _ e _ at-all-quads-stand.all-quads-stand.ensures (not-false _ at-if3.if3.left) _ c.before.before.clear-of-fronts.ensures (not-false _ c.before.if4.false) _ c.is-simple.ensures
+    crossing_decides (job_at entry) a.points.now (fronts_at entry) a.li a.row.now a.front.len (sized entry) entry.pre.1.0.2 (below entry) _ at-all-inside.all-inside.ensures (not-false _ at-if1.if1.left) _ (rw twentieth_is at at-all-off-boundary.all-off-boundary.ensures) (not-false _ at-if2.if2.left) _ e _ at-all-quads-stand.all-quads-stand.ensures (not-false _ at-if3.if3.left) _ c.before.before.clear-of-fronts.ensures (not-false _ c.before.if4.false) _ c.is-simple.ensures
 
 pub rest-stands-spec : {M : Type 1} → statement M
 rest-stands-spec =

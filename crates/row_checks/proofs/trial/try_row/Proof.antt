@@ -26,16 +26,16 @@ use Rattle.row_checks.proofs.trial.try_row.Tie as tie
 abbrev start : tie.After-front-at → tie.Start
 start c = search
 
-abbrev jobAt : tie.Start → Job
-jobAt s = job s.args.coords.now s.args.loop-lengths.now s.args.h s.args.options
+abbrev job_at : tie.Start → Job
+job_at s = job s.args.coords.now s.args.loop-lengths.now s.args.h s.args.options
 
-abbrev frontsAt : tie.Start → List (List ℕ)
-frontsAt s = cut s.args.lengths.now s.args.front-nodes.now
+abbrev fronts_at : tie.Start → List (List ℕ)
+fronts_at s = cut s.args.lengths.now s.args.front-nodes.now
 
-abbrev oldAt : tie.Start → List ℕ
-oldAt s = get_or (frontsAt s) s.args.li []
+abbrev old_at : tie.Start → List ℕ
+old_at s = get_or (fronts_at s) s.args.li []
 
-sized : (c : tie.After-front-at) → c.front_at.result.len ≡ length (oldAt (start c))
+sized : (c : tie.After-front-at) → c.front_at.result.len ≡ length (old_at (start c))
 sized c =
     let s = start c in
     cut-length s.args.lengths.now s.args.front-nodes.now s.args.li s.pre.0.0 s.pre.1.0.1 _ c.front_at.ensures.1
@@ -52,7 +52,7 @@ within c =
 abbrev front_at : tie.After-nodes-of → tie.After-front-at
 front_at c = search
 
-old-is : (c : tie.After-nodes-of) → c.nodes-of.result.now ≡ oldAt (start (front_at c))
+old-is : (c : tie.After-nodes-of) → c.nodes-of.result.now ≡ old_at (start (front_at c))
 old-is c =
     let f = front_at c in
     let s = start f in
@@ -72,14 +72,14 @@ begun c = front_at (nodes-of (projected c))
 abbrev ring-row : tie.After-enum-told → List Float
 ring-row c = (projected c).project-row.new.1.1.1.0
 
-all-project : (c : tie.After-enum-told) → all_project (node_ring (start (begun c)).args.points.now (oldAt (start (begun c)))) (start (begun c)).args.h ≡ true
+all-project : (c : tie.After-enum-told) → all_project (node_ring (start (begun c)).args.points.now (old_at (start (begun c)))) (start (begun c)).args.h ≡ true
 all-project c =
     let at = projected c in
     let s = start (begun c) in
     passed_all s.args.points.now s.args.h _ _ _ (old-is (nodes-of at)) at.project-row.ensures.0 c.enum_told.given.1
 
 new-points : (c : tie.After-enum-told)
-    → take ((begun c).front_at.result.len * 2) (ring-row c) ≡ new_points (node_ring (start (begun c)).args.points.now (oldAt (start (begun c)))) (start (begun c)).args.h (begun c).front_at.result.len
+    → take ((begun c).front_at.result.len * 2) (ring-row c) ≡ new_points (node_ring (start (begun c)).args.points.now (old_at (start (begun c)))) (start (begun c)).args.h (begun c).front_at.result.len
 new-points c =
     let at = projected c in
     let s = start (begun c) in
@@ -104,7 +104,7 @@ returns : tie.Need-returns
 returns c =
     let at-front-at : tie.After-front-at = search in
     let s = start at-front-at in
-    (ap tried (too_few (jobAt s) s.args.points.now (frontsAt s) s.args.quads s.args.li _ (sized at-front-at) c.if1.true), λ z. absurd (twenty_two z))
+    (ap tried (too_few (job_at s) s.args.points.now (fronts_at s) s.args.quads s.args.li _ (sized at-front-at) c.if1.true), λ z. absurd (twenty_two z))
 
 nodes-of-requires : tie.Need-nodes-of-requires
 nodes-of-requires c κs =
@@ -138,7 +138,7 @@ returns-2 c =
     let f = front_at (nodes-of at-project-row) in
     let s = start f in
     let none = refused_all s.args.points.now s.args.h _ _ _ (old-is (nodes-of at-project-row)) at-project-row.project-row.ensures.0 _ c.enum-told2.given.1 in
-    (ap tried (no_projection (jobAt s) s.args.points.now (frontsAt s) s.args.quads s.args.li _ (sized f) at-if1.if1.left none), λ z. absurd (twenty_two z))
+    (ap tried (no_projection (job_at s) s.args.points.now (fronts_at s) s.args.quads s.args.li _ (sized f) at-if1.if1.left none), λ z. absurd (twenty_two z))
 
 mul-m : tie.Need-overflow-mul-m
 mul-m c =
@@ -168,7 +168,7 @@ returns-3 c =
     let at-rest-stands : tie.After-rest-stands = search in
     let here : tie.After-enum-told = search in
     let s = start (begun here) in
-    (ap tried (rest_fails (jobAt s) s.args.points.now (frontsAt s) s.args.quads s.args.li _ (sized (begun here)) (six here) (all-project here) _ (new-points here) (sym at-rest-stands.rest-stands.ensures ∙ not-true _ c.if2.true)), λ z. absurd (twenty_two z))
+    (ap tried (rest_fails (job_at s) s.args.points.now (fronts_at s) s.args.quads s.args.li _ (sized (begun here)) (six here) (all-project here) _ (new-points here) (sym at-rest-stands.rest-stands.ensures ∙ not-true _ c.if2.true)), λ z. absurd (twenty_two z))
 
 add-if3 : tie.Need-overflow-add-if3
 add-if3 c =
@@ -185,7 +185,7 @@ returns-4 c =
     let at-rest-stands : tie.After-rest-stands = search in
     let here : tie.After-enum-told = search in
     let s = start (begun here) in
-    (ap tried (too_many_points (jobAt s) s.args.points.now (frontsAt s) s.args.quads s.args.li _ (sized (begun here)) (six here) (all-project here) _ (new-points here) (sym at-rest-stands.rest-stands.ensures ∙ not-false _ at-if2.if2.left) c.if3.true), λ z. absurd (twenty_one z))
+    (ap tried (too_many_points (job_at s) s.args.points.now (fronts_at s) s.args.quads s.args.li _ (sized (begun here)) (six here) (all-project here) _ (new-points here) (sym at-rest-stands.rest-stands.ensures ∙ not-false _ at-if2.if2.left) c.if3.true), λ z. absurd (twenty_one z))
 
 add-if4 : tie.Need-overflow-add-if4
 add-if4 c = search rules
@@ -199,7 +199,7 @@ returns-5 c =
     let at-rest-stands : tie.After-rest-stands = search in
     let here : tie.After-enum-told = search in
     let s = start (begun here) in
-    (ap tried (too_many_quads (jobAt s) s.args.points.now (frontsAt s) s.args.quads s.args.li _ (sized (begun here)) (six here) (all-project here) _ (new-points here) (sym at-rest-stands.rest-stands.ensures ∙ not-false _ at-if2.if2.left) c.before.if3.false c.if4.true), λ z. absurd (twenty_one z))
+    (ap tried (too_many_quads (job_at s) s.args.points.now (fronts_at s) s.args.quads s.args.li _ (sized (begun here)) (six here) (all-project here) _ (new-points here) (sym at-rest-stands.rest-stands.ensures ∙ not-false _ at-if2.if2.left) c.before.if3.false c.if4.true), λ z. absurd (twenty_one z))
 
 same-length-5 : tie.Need-same-length-5
 same-length-5 c = search rules
@@ -210,7 +210,7 @@ returns-6 c =
     let at-rest-stands : tie.After-rest-stands = search in
     let here : tie.After-enum-told = search in
     let s = start (begun here) in
-    (ap tried (stands (jobAt s) s.args.points.now (frontsAt s) s.args.quads s.args.li _ (sized (begun here)) (six here) (all-project here) _ (new-points here) (sym at-rest-stands.rest-stands.ensures ∙ not-false _ at-if2.if2.left) c.before.if3.false c.if4.false), λ z. renamed _ _ _ _ _ (begun here).front_at.ensures.1 (new-points here))
+    (ap tried (stands (job_at s) s.args.points.now (fronts_at s) s.args.quads s.args.li _ (sized (begun here)) (six here) (all-project here) _ (new-points here) (sym at-rest-stands.rest-stands.ensures ∙ not-false _ at-if2.if2.left) c.before.if3.false c.if4.false), λ z. renamed _ _ _ _ _ (begun here).front_at.ensures.1 (new-points here))
 
 pub try-row-spec : {M : Type 1} → statement M
 try-row-spec =
