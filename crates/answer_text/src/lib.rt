@@ -1,4 +1,6 @@
 // The text of an answer, put into a lent buffer: document 01's lines for a state, or its line for a refusal.
+#![tactic(auto)]
+
 mod answer;
 mod lines;
 

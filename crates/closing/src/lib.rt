@@ -1,4 +1,6 @@
 // Fronts of four and six nodes closed by one quad or two: the Rust's `close_small_fronts` on a lent state, and the closing call.
+#![tactic(auto)]
+
 mod call;
 mod keeping;
 mod step;

@@ -1,5 +1,7 @@
 // The text of a job from standard input, its picture as SVG to standard output, and nothing of its own. Where standard input cannot
 // be read, nothing is printed there, and standard error says so; the same when the picture could not be written whole.
+#![tactic(auto)]
+
 use standard::Input;
 
 fn main() {

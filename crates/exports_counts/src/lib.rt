@@ -1,4 +1,6 @@
 // What the calls on jobs and states share for C and Rust callers: the options one by one, and the counts as a slice of eight.
+#![tactic(auto)]
+
 mod counts;
 mod options;
 

@@ -1,4 +1,6 @@
 // The test of a tile list's text for C and Rust callers.
+#![tactic(auto)]
+
 ghost use Rattle.std.specs.Prelude.{◌≡◌};
 ghost use Rattle.tile_list.specs.Recheck.{recheck_call, rechecked};
 

@@ -1,4 +1,6 @@
 // The job's text for C and Rust callers.
+#![tactic(auto)]
+
 ghost use Rattle.std.specs.Prelude.{◌≡◌};
 ghost use Rattle.plate_text.specs.PaveText.{text_call, texted};
 

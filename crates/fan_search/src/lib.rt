@@ -1,5 +1,7 @@
 // A fan tried: the search for its centre and the corner test of its quads (the Rust's `fan_fill` up to what it writes). Nothing lent is
 // written here.
+#![tactic(auto)]
+
 mod grid;
 mod quads;
 mod squares;

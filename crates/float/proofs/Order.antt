@@ -1,7 +1,7 @@
 -- The root keeps the order (`root_monotone`); what is less is not as much or more (`not_both`).
 use Rattle.std.proofs.Common.{◌≡◌, ℕ, zero, suc, ◌+◌, ◌*◌, ◌/◌, ◌^◌, ◌<◌, ◌≤◌, Bool, true, false, not, ◌||◌, T, eqb, ltb, ◌⊎◌, ℤ, pos, sym, refl, ap, ◌∙◌, subst, inl, inr, le_trans, le_of_eq, le_refl, le_of_suc-le-suc, lt_of_le_of_lt, le_of_lt, mul-le-mul_right, zero-lt-suc, mul-le-mul, eq-or-lt_of_le, mul-pos, pow-suc, mul_right_comm, le_of_mul-le-mul_right, arith, eqb→eq, ltb→lt, lt→ltb, pow_pos, pow_mono}
 use mathlib.Core.Bool.{beq}
-use lib.Ieee.{Float, nan, inf, fin, binary64, up, down, units, round, below, level, fits, is_nan, lt, eq, le}
+use lib.Ieee.{Float, nan, inf, fin, binary64, up, down, round, below, level, fits, is_nan, lt, eq, le}
 use lib.Ieee.Digits.{size_reaches, size-lt}
 use lib.Ieee.Fits.{and_l, and_r, up_pos, down_pos}
 use lib.Ieee.Exact.{HasValue}

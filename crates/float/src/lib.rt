@@ -1,4 +1,6 @@
 // Functions on f64 that the paving uses: what Rust's methods of f64 give, and the square root. Each takes every f64.
+#![tactic(auto)]
+
 ghost use Rattle.std.specs.Prelude.{◌≡◌, ◌+◌, ◌*◌, ◌/◌, ◌%◌, ◌^◌, ◌<◌, ◌≤◌, true};
 ghost use Rattle.float.specs.Helpers as helpers;
 ghost use Rattle.float.specs.Root.{root as root_of, whole_root};

@@ -1,4 +1,6 @@
 // What stands around a plate's shapes in a picture: view box, styles, and where the line of words is.
+#![tactic(auto)]
+
 mod boxes;
 mod heads;
 

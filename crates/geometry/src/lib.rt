@@ -1,6 +1,8 @@
 // Points, sides, rings and quads, and the plate's outline: what the Rust's two_d.rs and the small functions of
 // alt_paving.rs compute. Each contract equates the result with the definition in specs/, whose f64 operations stand in the
 // Rust's order.
+#![tactic(auto)]
+
 mod corners;
 mod domain;
 mod points;

@@ -1,4 +1,6 @@
 // A job's input: the options, and the numbers 1 to 6 of document 01. Every call tests its job by `input_number`.
+#![tactic(auto)]
+
 ghost use Rattle.std.specs.Prelude.{◌≡◌};
 ghost use Rattle.input.specs.Defaults as options;
 ghost use Rattle.input.specs.Limit.{default_limit};

@@ -1,4 +1,6 @@
 // The job: sampling, passes of rows, closings.
+#![tactic(auto)]
+
 mod call;
 mod closed;
 mod paved;

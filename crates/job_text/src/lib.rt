@@ -1,4 +1,6 @@
 // The text of a job, read into coordinates and loop lengths.
+#![tactic(auto)]
+
 mod jobs;
 mod lines;
 mod loops;

@@ -1,4 +1,6 @@
 // The text of a job in, the `s` lines of its sampled loops out: what the program `loops` does between its reading and its writing.
+#![tactic(auto)]
+
 ghost use Rattle.std.specs.Prelude.{◌≤◌, length};
 ghost use Rattle.geometry.specs.Domain.{sum_of};
 ghost use Rattle.state.specs.Limits.{front_limit, front_node_limit};

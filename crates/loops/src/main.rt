@@ -1,6 +1,8 @@
 // The text of a job from standard input, an `s` line for each of its sampled loops to standard output, or `refused` and the number.
 // Where standard input cannot be read, nothing is printed there, and standard error says so; the same when the lines could not be
 // written whole.
+#![tactic(auto)]
+
 use standard::Input;
 
 fn main() {

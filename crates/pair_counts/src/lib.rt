@@ -1,6 +1,8 @@
 // Whether each pair of nodes is counted never or twice over the sides of rings. It knows of no job.
 // The sides are chained by their lower node, and the higher nodes of each chain are tallied: the work is linear in the sides,
 // also when all of them meet in one node.
+#![tactic(auto)]
+
 ghost use Rattle.std.specs.Prelude.{◌≡◌, ◌++◌, ℕ, ◌+◌, ◌≤◌, ◌<◌, length, get_or};
 ghost use Rattle.geometry.specs.Domain.{sum_of};
 ghost use Rattle.state.specs.State.{cut};

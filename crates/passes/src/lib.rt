@@ -1,4 +1,6 @@
 // The passes of a job: each puts the fronts in order of their lengths and tries one row on each.
+#![tactic(auto)]
+
 mod order;
 mod pass;
 mod run;

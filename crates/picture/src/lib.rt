@@ -1,4 +1,6 @@
 // A job's text, paved and drawn as SVG.
+#![tactic(auto)]
+
 mod drawing;
 mod plates;
 

@@ -1,4 +1,6 @@
 // The second half of the Rust's `sample_loop`: a planned loop's nodes placed, and with them one loop sampled, the numbers 7 to 10 of document 01.
+#![tactic(auto)]
+
 mod one_loop;
 mod place;
 

@@ -1,4 +1,6 @@
 // The first half of the Rust's `sample_loop`: a loop's ring, of the points kept, and its plan, how many inner points each side gets.
+#![tactic(auto)]
+
 mod keep;
 mod plan;
 mod ring;

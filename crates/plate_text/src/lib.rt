@@ -1,4 +1,6 @@
 // The text of a job in, the text of its answer out: what the program `pave` does between its reading and its writing.
+#![tactic(auto)]
+
 ghost use Rattle.std.specs.Prelude.{◌≡◌, ◌≤◌, length};
 ghost use Rattle.state.specs.Call.{lent};
 ghost use Rattle.input.specs.Job as inputs;

@@ -1,6 +1,8 @@
 // A tile list from standard input, the sampled loops' `s` lines and then what `pave` printed; the same bytes to standard output where
 // the list is accepted, otherwise `refused` and the number. Where standard input cannot be read, nothing is printed there, and standard
 // error says so; the same when the answer could not be written whole.
+#![tactic(auto)]
+
 use standard::Input;
 
 fn main() {

@@ -1,4 +1,6 @@
 // A row that stands, written into a lent state: the Rust's `commit_row`.
+#![tactic(auto)]
+
 mod commit;
 mod laying;
 

@@ -1,4 +1,6 @@
 // From a job to its sampled loops: the call `sample`, with the numbers 1 to 10 of document 01 (`sample` of the Rust's alt_paving.rs).
+#![tactic(auto)]
+
 mod all_loops;
 mod call;
 

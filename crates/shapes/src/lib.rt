@@ -1,4 +1,6 @@
 // Places, and the shapes of a plate at them, as SVG: outline, tiles, fronts and nodes, put into a lent buffer.
+#![tactic(auto)]
+
 mod fronts;
 mod least;
 mod places;

@@ -1,4 +1,6 @@
 // What is printed beside the text of `pave_text`: a line, a refusal, and a state.
+#![tactic(auto)]
+
 ghost use Rattle.std.specs.Prelude.{◌≤◌, length};
 ghost use Rattle.state.specs.Call.{held};
 ghost use Rattle.text.specs.Putting.{Put};

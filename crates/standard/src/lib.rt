@@ -1,4 +1,6 @@
 // Standard input read whole and standard output written whole, for programs that turn one text into another.
+#![tactic(auto)]
+
 mod buffers;
 
 ghost use Rattle.std.specs.Prelude.{◌≤◌, length};

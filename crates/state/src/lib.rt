@@ -1,5 +1,7 @@
 // The state of a paving as a caller holds it: four lent buffers, and the counts by value. Number 25, zeros behind the counts, and
 // writing points, quads and front numbers into the buffers. The calls of the crates above stand on it.
+#![tactic(auto)]
+
 mod appending;
 mod buffers;
 mod clearing;

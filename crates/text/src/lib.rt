@@ -1,4 +1,6 @@
 // Text as bytes: whole numbers in decimal digits, where a field ends, and words. It knows of no job.
+#![tactic(auto)]
+
 mod fields;
 mod hexadecimal;
 mod numbers;

@@ -1,4 +1,6 @@
 // The text of a tile list in, the same text or a refusal out: what the program `recheck` does between its reading and its writing.
+#![tactic(auto)]
+
 mod quads;
 mod tests;
 mod verdict;

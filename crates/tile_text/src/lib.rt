@@ -1,4 +1,6 @@
 // The text of a tile list, as the solver desk edits it: sampled loops, then what `pave` prints. Reading it into lent buffers.
+#![tactic(auto)]
+
 mod counts;
 mod list;
 mod numbers;

@@ -1,34 +1,9 @@
 -- `float::normal_bits` meets its contract: the digits that `near_digits` finds are those of the rounded root.
-use Rattle.std.proofs.Common.{◌≡◌, ℕ, ◌+◌, ◌-◌, ◌*◌, ◌/◌, ◌%◌, ◌^◌, ◌<◌, ◌≤◌, sym, ap, ◌∙◌, subst, arith, rules}
+use Rattle.std.proofs.Common.{◌≡◌, ℕ, ◌+◌, ◌-◌, ◌*◌, ◌/◌, ◌%◌, ◌^◌, ◌<◌, ◌≤◌, ap, ◌∙◌, subst, arith}
 use Rattle.float.specs.Root.{whole_root}
 use Rattle.float.proofs.Whole.{nearest_found}
 use Rattle.float.proofs.Scaled.{doubled_most}
-use Rattle.float.proofs.normal_bits.Statement.{statement}
-use Rattle.float.proofs.normal_bits.Tie as tie
-
-add-w : tie.Need-overflow-add-w
-add-w c = search rules
-
-add-near-digits : tie.Need-overflow-add-near-digits
-add-near-digits c = search rules
-
-mul-near-digits : tie.Need-overflow-mul-near-digits
-mul-near-digits c = search rules
-
-rem-near-digits : tie.Need-nonzero-rem-near-digits
-rem-near-digits c = search rules
-
-near-digits-requires : tie.Need-near-digits-requires
-near-digits-requires c κs = search rules
-
-add-result : tie.Need-overflow-add-result
-add-result c = search rules
-
-mul-result : tie.Need-overflow-mul-result
-mul-result c = search rules
-
-add-result-2 : tie.Need-overflow-add-result-2
-add-result-2 c = search rules
+use Rattle.float.proofs.normal_bits.Goals as goal
 
 accepted : (a g : ℕ) → a ≤ 2 ^ 54 - 2 → (g * g < a * 2 ^ 52 + g) × (a * 2 ^ 52 ≤ g * g + g) → g ≡ (whole_root 54 (a * 4 ^ 27) + 1) / 2
 accepted a g h n = nearest_found 54 (a * 2 ^ 52) g (room a h) n.0 n.1 ∙ ap (λ (m : ℕ). (whole_root 54 m + 1) / 2) (four a)
@@ -49,28 +24,14 @@ same-parity b = omega arith
 abbrev Near : ℕ → ℕ → ℕ → Type 0
 Near g r o = (g * g < (r + 2 ^ 52) * (o + 1) * 2 ^ 52 + g) × ((r + 2 ^ 52) * (o + 1) * 2 ^ 52 ≤ g * g + g)
 
-returns : tie.Need-returns
-returns c =
-    let b = c.before.before.args.b in
-    let g = c.before.near-digits.result in
-    let n = c.before.near-digits.ensures.1 c.if1.true in
+pub returns-then-g-ne0 : goal.returns-then-g-ne0
+returns-then-g-ne0 c =
+    let b = c.args.b in
+    let g = c.near_digits-g.result in
+    let n = c.near_digits-g.ensures.1 c.if-g-ne0.true in
     ap (λ (r : ℕ). ((b / 2 ^ 52 + 51) / 2 + 485) * 2 ^ 52 + r)
     (accepted ((b % 2 ^ 52 + 2 ^ 52) * ((b / 2 ^ 52 + 51) % 2 + 1)) g (doubled_most (b % 2 ^ 52 + 2 ^ 52) (b / 2 ^ 52 + 51) (small b))
     (subst (λ (o : ℕ). Near g (b % 2 ^ 52) o) (same-parity b) (subst (λ (r : ℕ). Near g r ((b + 2 ^ 52) % 2 ^ 53 / 2 ^ 52)) (same_digits b) n)))
   where
     small : (b : ℕ) → b % 4503599627370496 + 4503599627370496 < 9007199254740992
     small b = omega arith
-
-add-root-bits : tie.Need-overflow-add-root-bits
-add-root-bits c = search rules
-
-root-bits-requires : tie.Need-root-bits-requires
-root-bits-requires c κs = search rules
-
-returns-2 : tie.Need-returns-2
-returns-2 c = search rules
-
-pub normal-bits-spec : {M : Type 1} → statement M
-normal-bits-spec =
-    tie.close
-    (tie.spec add-w add-near-digits mul-near-digits rem-near-digits near-digits-requires add-result mul-result add-result-2 returns add-root-bits root-bits-requires returns-2)

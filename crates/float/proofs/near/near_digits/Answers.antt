@@ -1,39 +1,23 @@
 -- `float::near::near_digits` meets its contract: a guess that passes the tests in f64 arithmetic is close enough for `is_nearest`.
-use Rattle.std.proofs.Common.{◌≡◌, ℕ, ◌+◌, ◌-◌, ◌*◌, ◌/◌, ◌%◌, ◌^◌, ◌<◌, ◌≤◌, true, false, T, sym, subst, mul-le-mul, arith, rules}
+use Rattle.std.proofs.Common.{◌≡◌, ℕ, ◌+◌, ◌-◌, ◌*◌, ◌/◌, ◌%◌, ◌^◌, ◌<◌, ◌≤◌, true, false, T, sym, subst, mul-le-mul, arith}
 use lib.Ieee.{Float, binary64, fits, to_bits, of_bits, mul, lt}
 use lib.Ieee.Bits.{of_bits-to_bits}
 use lib.Ieee.Exact.{HasValue}
 use Rattle.float.proofs.Patterns.{below_endless}
 use Rattle.float.proofs.Close.{number_value, digits_value, close_under, close_above, square_number}
-use Rattle.float.proofs.near.near_digits.Statement.{statement}
-use Rattle.float.proofs.near.near_digits.Tie as tie
+use Rattle.float.proofs.near.near_digits.Goals as goal
 
-add-y : tie.Need-overflow-add-y
-add-y c = search rules
+pub float_from_bits-y : goal.float_from_bits-y
+float_from_bits-y c = below_endless _ (omega arith)
 
-float-from-bits-y : tie.Need-float-from-bits-y
-float-from-bits-y c = below_endless _ (omega arith)
+pub float_from_bits-t-8 : goal.float_from_bits-t-8
+float_from_bits-t-8 c = below_endless _ (omega arith)
 
-guess-requires : tie.Need-guess-requires
-guess-requires c κs = search rules
+pub float_from_bits-t-11 : goal.float_from_bits-t-11
+float_from_bits-t-11 c = below_endless _ (omega arith)
 
-float-from-bits-if1 : tie.Need-float-from-bits-if1
-float-from-bits-if1 c = below_endless _ (omega arith)
-
-float-from-bits-if2 : tie.Need-float-from-bits-if2
-float-from-bits-if2 c = below_endless _ (omega arith)
-
-float-to-bits-bits : tie.Need-float-to-bits-bits
-float-to-bits-bits c = square_number _ _ c.before.if1.true
-
-sub-digits : tie.Need-overflow-sub-digits
-sub-digits c = search rules
-
-add-is-nearest : tie.Need-overflow-add-is-nearest
-add-is-nearest c = search rules
-
-add-is-nearest-2 : tie.Need-overflow-add-is-nearest-2
-add-is-nearest-2 c = search rules
+pub float_to_bits-bits : goal.float_to_bits-bits
+float_to_bits-bits c = square_number _ _ c.if-square-y.true
 
 -- the number's digits are 53 or 54, and not 0
 most : (t : ℕ) → t < 2 ^ 53 → (t % 4503599627370496 + 4503599627370496) * (t / 4503599627370496 + 1) ≤ 18014398509481982
@@ -48,8 +32,8 @@ least t =
     let o : 1 ≤ t / 4503599627370496 + 1 = omega arith in
     mul-le-mul r o
 
-mul-is-nearest : tie.Need-overflow-mul-is-nearest
-mul-is-nearest c = let s : tie.Start = search in omega (arith, most s.args.t s.pre)
+pub overflow_mul-t : goal.overflow_mul-t
+overflow_mul-t c = omega (arith, most c.args.t c.requires)
 
 -- what the tests tell of the guess g and its digits
 tests : (t : ℕ) (g : Float) → t < 2 ^ 53 → T (fits binary64 g) → to_bits binary64 g / 2 ^ 52 ≡ 1023
@@ -78,32 +62,12 @@ tests t g h F e u v =
     some : (d : ℕ) → 4503599627370496 ≤ d → 0 < d
     some d h = omega arith
 
-is-nearest-requires : tie.Need-is-nearest-requires
-is-nearest-requires c κs =
-    let at-guess : tie.After-guess = search in
-    let s : tie.Start = search in
-    let t = s.args.t in
-    let g = at-guess.guess.result in
-    tests t g s.pre (subst T (sym at-guess.guess.ok) tt) c.if3.true c.before.before.if1.true c.before.if2.true
+pub is_nearest-requires : goal.is_nearest-requires
+is_nearest-requires c =
+    let t = c.args.t in
+    let g = c.guess-g.result in
+    tests t g c.requires (subst T (sym c.guess-g.type_inv) tt) c.if-bits-eq1023.true c.if-square-y.true c.if-y-square.true
 
-returns : tie.Need-returns
-returns c =
-    let s = c.before in
-    ((is-nearest-requires s.before s.is-nearest.lifetimes).2, λ _. s.is-nearest.ensures c.if4.true)
-
-returns-2 : tie.Need-returns-2
-returns-2 c = search rules
-
-returns-3 : tie.Need-returns-3
-returns-3 c = search rules
-
-returns-4 : tie.Need-returns-4
-returns-4 c = search rules
-
-returns-5 : tie.Need-returns-5
-returns-5 c = search rules
-
-pub near-digits-spec : {M : Type 1} → statement M
-near-digits-spec =
-    tie.close
-    (tie.spec add-y float-from-bits-y guess-requires float-from-bits-if1 float-from-bits-if2 float-to-bits-bits sub-digits add-is-nearest add-is-nearest-2 mul-is-nearest is-nearest-requires returns returns-2 returns-3 returns-4 returns-5)
+pub returns-then-is_nearest : goal.returns-then-is_nearest
+returns-then-is_nearest c =
+    ((is_nearest-requires (let at_then_bits_eq1023 : goal.Then-bits-eq1023 = search in at_then_bits_eq1023)).2, λ _. c.is_nearest.ensures c.if-is_nearest.true)
