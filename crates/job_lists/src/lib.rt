@@ -1,1 +1,2 @@
 // What an accepted job left is an accepted tile list: see specs/ and proofs/.
+#![tactic(auto)]

@@ -1,8 +1,8 @@
 // The rules of paving, and the demands proved of them: see specs/ and proofs/. The calls that follow these rules stand in the crates above.
 
-// What projecting a front's node inward answers: a point with its two coordinates, or nothing.
 #![tactic(auto)]
 
+// What projecting a front's node inward answers: a point with its two coordinates, or nothing.
 #[derive(Drop)]
 pub enum Projection {
     At(f64, f64),
