@@ -2,12 +2,8 @@
 use mathlib.Core.Path.{refl}
 use lib.Ieee.{of_bits, round}
 use Rattle.input.specs.Limit.{default_limit}
-use Rattle.input.proofs.defaults.Statement.{statement}
-use Rattle.input.proofs.defaults.Tie as tie
+use Rattle.input.proofs.defaults.Goals as goal
 
-returns : tie.Need-returns
+pub returns : goal.returns
 unfolding round of_bits default_limit
 returns c = refl
-
-pub defaults-spec : {M : Type 1} → statement M
-defaults-spec = tie.close (tie.spec returns)
