@@ -1,12 +1,10 @@
 -- `text::putting::bits_of` meets its contract: only a NaN differs from itself.
 use mathlib.Core.Path.{◌≡◌, sym}
 use mathlib.Core.Bool.{true, false, not, true≢false}
-use borrow.Author.Rules.{rules}
 use lib.Dec.{T}
 use lib.Ieee.{Float, nan, inf, fin, binary64, eq, ne, is_nan, to_bits}
 use lib.Ieee.Compare.{differs_from_itself}
-use Rattle.text.proofs.putting.bits_of.Statement.{statement}
-use Rattle.text.proofs.putting.bits_of.Tie as tie
+use Rattle.text.proofs.putting.bits_of.Goals as goal
 
 a-number : (x : Float) → eq x x ≡ true → T (not (is_nan x))
 unfolding eq is_nan
@@ -18,14 +16,8 @@ nan-bits : (x : Float) → eq x x ≡ false → 0x7FF8_0000_0000_0000 ≡ to_bit
 unfolding ne to_bits
 nan-bits x h = let t : T (ne x x) = rw h tt in rw (differs_from_itself x t)
 
-float-to-bits-result : tie.Need-float-to-bits-result
-float-to-bits-result c = a-number _ c.if1.true
+pub float_to_bits-result : goal.float_to_bits-result
+float_to_bits-result c = a-number _ c.if-x.true
 
-returns : tie.Need-returns
-returns c = search rules
-
-returns-2 : tie.Need-returns-2
-returns-2 c = nan-bits _ c.if1.false
-
-pub bits-of-spec : {M : Type 1} → statement M
-bits-of-spec = tie.close (tie.spec float-to-bits-result returns returns-2)
+pub returns : goal.returns
+returns c = nan-bits _ c.if-x.false
