@@ -174,9 +174,9 @@ module _ (t : List ℕ) (x : Float) (c : List Float) (l : List ℕ) (s : Stored)
           lengths = front_part l (map length (loops d)) s.lengths (length (loops d)) (omega arith) (sym (length-map (loops d) length)) (ap (λ (q : Stored). q.lengths) (some_is f.stores));
         }
 
-    pub job_read : JobReadIs t s.coords s.lengths (job_read.Is x s.pairs s.loops)
+    pub job_read_lem : JobReadIs t s.coords s.lengths (job_read.Is x s.pairs s.loops)
     unfolding answer_of
-    job_read = record {
+    job_read_lem = record {
       answer = rw (f.is, not_many, f.size, total_is, loops_is);
       holds = λ d g m. rw (some_is (sym f.is ∙ g)) at held;
     }

@@ -100,9 +100,9 @@ module _ (t : List ℕ) (at : ℕ) where
           unfolding read_at and_then
           no_lf e = rw (a.is, m.is, m.rest, b.is, n.is, n.rest, e)
 
-          pub at_line : There (10 ∷ []) t lf → at_line.Is x y (lf + 1) ≡ line_of t (read_at (drop at t))
+          pub at_line_lem : There (10 ∷ []) t lf → at_line.Is x y (lf + 1) ≡ line_of t (read_at (drop at t))
           unfolding read_at and_then
-          at_line e = rw (a.is, m.is, m.rest, b.is, n.is, n.rest, e.is, m.value, n.value, place_of_end t (lf + 1) e.within)
+          at_line_lem e = rw (a.is, m.is, m.rest, b.is, n.is, n.rest, e.is, m.value, n.value, place_of_end t (lf + 1) e.within)
 
 -- ---- and what a line that was read tells
 

@@ -2,10 +2,10 @@
 use mathlib.Core.Path.{◌≡◌, refl, sym, ◌∙◌, ap}
 use mathlib.Core.Bool.{Bool, true, false, cond}
 use mathlib.Core.List.Memᴰ
-use mathlib.Core.List.{List, [], ◌∷◌, ◌++◌, map, append_assoc, append-nil, Memᴰ}
+use mathlib.Core.List.{List, [], ◌∷◌, ◌++◌, map, append_assoc, Memᴰ}
 use mathlib.Core.Option.{Option, none, some, none-ne-some, Option-elim}
 use mathlib.Core.Logic.{⊎_elim}
-use Prim.Native.Nat.{ℕ, zero, suc, ◌+◌, ◌≤◌, ◌<◌}
+use Prim.Native.Nat.{ℕ, zero, suc, ◌≤◌, ◌<◌}
 use native.Mathlib.Omega.{arith}
 use lib.Dec.{eqb, ltb}
 use lib.ListN.{length, length-append}
@@ -13,7 +13,7 @@ use borrow.Author.Tests.{eqb-true, eqb-false, ne_eqb, ltb-false, le-ltb}
 use Rattle.state.specs.State.{joined}
 use Rattle.text.specs.Decimal.{decimal_text, natural_of}
 use Rattle.text.specs.Fields.{ends_field, field, after_field, behind}
-use Rattle.job_text.specs.Drawing.{Place, Drawing, size_word, outer_word, hole_word, at_text, loop_text, hole_text, job_text, loops, size_most}
+use Rattle.job_text.specs.Drawing.{Place, Drawing, size_word, outer_word, hole_word, at_text, loop_text, hole_text, job_text, size_most}
 use Rattle.job_text.specs.Reading.{and_then, Read, read, read_at, before, read_loop, read_holes, read_size, read_job}
 use Rattle.job_text.specs.Readable.{Within, ReadableTexts}
 use Rattle.job_text.proofs.ReadableNumbers.{field_at, after_at, field_split, plain_digits, natural_back, natural_only}

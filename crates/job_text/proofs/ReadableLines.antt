@@ -1,23 +1,20 @@
 -- Words, `at` lines, loops and holes are read exactly where their writing stands.
-use mathlib.Core.Path.{◌≡◌, refl, sym, ◌∙◌, ap}
-use mathlib.Core.Bool.{Bool, true, false, cond, ◌||◌}
-use mathlib.Core.List.{List, [], ◌∷◌, ◌++◌, map, append_assoc, append-nil, Memᴰ}
+use mathlib.Core.Path.{◌≡◌, refl, sym, ◌∙◌}
+use mathlib.Core.Bool.{Bool, true, false, cond}
+use mathlib.Core.List.{List, [], ◌∷◌, ◌++◌, append_assoc}
 use mathlib.Core.Option.{none, some, none-ne-some}
-use mathlib.Core.Logic.{⊎_elim}
-use Prim.Native.Nat.{ℕ, zero, suc, ◌+◌, ◌≤◌, ◌<◌, ◌^◌}
+use Prim.Native.Nat.{ℕ, ◌≤◌}
 use native.Mathlib.Omega.{arith}
 use lib.Dec.{eqb}
 use lib.IntN.{ℤ}
-use lib.ListN.{length, length-append}
-use borrow.Author.Tests.{eqb-true, eq-eqb, ne_eqb}
-use Rattle.state.specs.State.{joined}
-use Rattle.text.specs.Decimal.{decimal_text, whole_text, whole_of, natural_of}
+use borrow.Author.Tests.{eqb-true, eq-eqb}
+use Rattle.text.specs.Decimal.{whole_text, whole_of}
 use Rattle.text.specs.Fields.{ends_field, field, after_field, behind}
-use Rattle.job_text.specs.Drawing.{Place, Drawing, at_word, hole_word, at_text, loop_text, hole_text, coordinate_most, size_most}
-use Rattle.job_text.specs.Reading.{Read, read, read_whole, read_at, before, read_loop, read_holes, read_size}
+use Rattle.job_text.specs.Drawing.{Place, at_word, at_text, coordinate_most}
+use Rattle.job_text.specs.Reading.{Read, read, read_whole, read_at}
 use Rattle.job_text.specs.Readable.{magnitude}
 use Rattle.job_text.proofs.Steps.{then_only, then_some, some_is}
-use Rattle.job_text.proofs.ReadableNumbers.{plain, plain_whole, plain_digits, field_at, after_at, field_split, whole_back, whole_only, natural_back, natural_only}
+use Rattle.job_text.proofs.ReadableNumbers.{plain_whole, field_at, after_at, field_split, whole_back, whole_only}
 
 -- ---- words
 

@@ -1,7 +1,7 @@
 -- What is proved of the two: a text is readable exactly when it is the writing of a drawing within the text's limits, and reading gives that drawing back.
-use Rattle.std.specs.Prelude.{ℕ, zero, suc, ◌≤◌, ◌≡◌, length, ℤ, pos, negsuc}
+use Rattle.std.specs.Prelude.{ℕ, suc, ◌≤◌, ◌≡◌, length, ℤ, pos, negsuc}
 use mathlib.Core.List.{List, Memᴰ}
-use Rattle.std.proofs.Math.Option.{Option, some}
+use Rattle.std.proofs.Math.Option.{some}
 use Rattle.job_text.specs.Drawing.{Place, Drawing, job_text, loops, size_most, coordinate_most}
 use Rattle.job_text.specs.Reading.{read_job}
 

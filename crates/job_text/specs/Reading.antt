@@ -1,6 +1,6 @@
 -- Which bytes are the text of a job, and what they mean. Definitions only.
-use Rattle.std.specs.Prelude.{ℕ, zero, suc, Bool, cond, ◌||◌, List, [], ◌∷◌, eqb, ltb, length, ℤ}
-use Rattle.std.proofs.Math.Option.{Option, none, some, Option·elim}
+use Rattle.std.specs.Prelude.{ℕ, zero, suc, cond, List, [], ◌∷◌, eqb, ltb, length, ℤ}
+use Rattle.std.proofs.Math.Option.{Option, none, some, Option-elim}
 use Rattle.text.specs.Decimal.{natural_of, whole_of}
 use Rattle.text.specs.Fields.{field, after_field, behind}
 use Rattle.job_text.specs.Drawing.{Place, Drawing, size_word, outer_word, hole_word, at_word, size_most, coordinate_most}
@@ -39,7 +39,7 @@ before p r = read (p ∷ r.value) r.rest
 -- `at` lines as long as they come; k is enough when it is the text's length
 unfoldable pub read_loop : ℕ → List ℕ → Read (List Place)
 read_loop zero t = read [] t
-read_loop (suc k) t = Option·elim (read_at t) (read [] t) (λ (p : Read Place). before p.value (read_loop k p.rest))
+read_loop (suc k) t = Option-elim (read_at t) (read [] t) (λ (p : Read Place). before p.value (read_loop k p.rest))
 
 -- holes up to the text's end; k is enough when it is above the text's length
 unfoldable pub read_holes : ℕ → List ℕ → Option (List (List Place))
