@@ -2,11 +2,7 @@
 use mathlib.Core.Logic.{inl}
 use Rattle.placing.proofs.Literals.{half_is}
 use Rattle.fan_search.proofs.Literals.{minus_infinity_is}
-use Rattle.fan_search.proofs.grid.middle_of.Statement.{statement}
-use Rattle.fan_search.proofs.grid.middle_of.Tie as tie
+use Rattle.fan_search.proofs.grid.middle_of.Goals as goal
 
-returns : tie.Need-returns
+pub returns : goal.returns
 returns c = (inl minus_infinity_is, rw (half_is, minus_infinity_is))
-
-pub middle-of-spec : {M : Type 1} → statement M
-middle-of-spec = tie.close (tie.spec returns)
