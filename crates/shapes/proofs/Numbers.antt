@@ -1,11 +1,10 @@
 -- Signs, fixed numbers and colour steps, by the code's tests.
-use mathlib.Core.Path.{◌≡◌, refl, sym, ◌∙◌}
+use mathlib.Core.Path.{◌≡◌, refl}
 use mathlib.Core.Bool.{Bool, true, false}
 use mathlib.Core.List.{List, [], ◌∷◌}
-use Prim.Native.Nat.{ℕ, ◌+◌, ◌<◌, ◌≤◌, min}
+use Prim.Native.Nat.{ℕ, ◌<◌, ◌≤◌, min}
 use native.Mathlib.Omega.{arith}
 use borrow.Author.Tests.{eq-eqb, ne_eqb}
-use lib.Dec.{eqb}
 use lib.Ieee.{Float, lt}
 use Rattle.float.specs.Helpers.{decimal, round_away}
 use Rattle.geometry.specs.F64.{◌⊖◌, ◌⊗◌, ◌⊘◌}

@@ -1,5 +1,5 @@
 -- A text of several pieces, put one after the other.
-use mathlib.Core.Path.{◌≡◌, refl}
+use mathlib.Core.Path.{◌≡◌}
 use mathlib.Core.List.{List, [], ◌∷◌}
 use Prim.Native.Nat.{ℕ}
 use Rattle.state.specs.State.{joined}

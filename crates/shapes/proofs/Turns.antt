@@ -1,8 +1,8 @@
 -- One turn of each loop: a text of many parts is its first part and the others.
-use mathlib.Core.Path.{◌≡◌, refl, sym, ◌∙◌, ap, ap₂}
+use mathlib.Core.Path.{◌≡◌, refl}
 use mathlib.Core.Bool.{false}
 use mathlib.Core.List.{List, [], ◌∷◌, ◌++◌}
-use Prim.Native.Nat.{ℕ, zero, suc, ◌+◌, ◌-◌, ◌*◌, ◌<◌, ◌≤◌}
+use Prim.Native.Nat.{ℕ, suc, ◌+◌, ◌-◌, ◌*◌, ◌<◌, ◌≤◌}
 use native.Mathlib.Numerals.{add-one}
 use native.Mathlib.Omega.{arith}
 use lib.Ieee.{Float, inf}
@@ -12,7 +12,7 @@ use Rattle.float.specs.Helpers.{lesser}
 use Rattle.geometry.specs.declared.Point.{Point}
 use Rattle.geometry.specs.Domain.{sum_of}
 use Rattle.geometry.specs.Rings.{point_at}
-use Rattle.state.specs.State.{Quad, quad, quad_nodes, quads_of, cut, numbered}
+use Rattle.state.specs.State.{quad_nodes, quads_of, cut, numbered}
 use Rattle.shapes.specs.Places.{place_text}
 use Rattle.shapes.specs.Shapes.{places_text, ring_text, path_text, loops_text, worst_of, step_of, tile_text, tiles_text, worst, quad_at, fronts_text, dot_text, dots_text}
 

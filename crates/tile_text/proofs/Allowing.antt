@@ -1,27 +1,26 @@
 -- What number 25 leaves of a state, and that the numbers of a list that is allowed fit where they are stored.
 use mathlib.Core.Path.{◌≡◌, refl, sym, ◌∙◌, ap}
-use mathlib.Core.Bool.{Bool, true, false, not, cond, ◌&&◌, ◌||◌, true≢false}
+use mathlib.Core.Bool.{Bool, true, false, not, ◌&&◌, ◌||◌, true≢false}
 use mathlib.Core.List.{List, [], ◌∷◌, ◌++◌, map}
-use Prim.Native.Nat.{ℕ, zero, suc, ◌+◌, ◌-◌, ◌*◌, ◌/◌, ◌%◌, ◌≤◌, ◌<◌}
+use Prim.Native.Nat.{ℕ, zero, suc, ◌+◌, ◌-◌, ◌*◌, ◌≤◌, ◌<◌}
 use native.Mathlib.Omega.{arith}
 use borrow.Author.Tests.{ltb-false, eqb-true, leb-true, lt-leb}
-use lib.Dec.{T, eqb, leb, ltb}
+use lib.Dec.{eqb}
 use lib.ListN.{length, get_or, take, replicate, length-map, length-append}
 use lib.Seq.{take_at}
-use lib.Ieee.{Float, binary64, fits, lt}
+use lib.Ieee.{Float, lt}
 use Rattle.float.specs.Helpers.{decimal, absolute, is_finite}
 use Rattle.geometry.specs.Domain.{sum_of}
 use Rattle.state.specs.Limits.{point_limit, quad_limit, front_limit, front_node_limit}
-use Rattle.state.specs.State.{State, Quad, quad_nodes, joined, nodes, counts_of, written, reading}
-use Rattle.state.specs.Given.{some, some_from, repeated, wrong_counts, wrong_values, wrong_state}
+use Rattle.state.specs.State.{State, quad_nodes, joined, nodes, written, reading}
+use Rattle.state.specs.Given.{some, some_from, wrong_counts, wrong_values, wrong_state}
 use Rattle.state.specs.Coordinates.{wrong_coordinate}
 use Rattle.state.proofs.Basics.{or_false}
 use Rattle.state.proofs.Written.{reading-written}
 use Rattle.state.proofs.Fitting.{total_lengths}
 use Rattle.state.proofs.Repeating.{all_below, from_both}
-use Rattle.answer_text.specs.AnswerText.{count_numbers}
 use Rattle.tile_text.specs.TileList.{TileList, with_fronts, allowed, every_quad, four_different, pass_limit}
-use Rattle.tile_text.specs.Plain.{U16s, FiniteF64s, Plain}
+use Rattle.tile_text.specs.Plain.{U16s, Plain}
 use Rattle.tile_text.specs.Readable.{F64s}
 
 -- ---- both parts of a test

@@ -4,11 +4,11 @@ use mathlib.Core.Bool.{Bool, true, false, cond}
 use mathlib.Core.List.{List, [], ◌∷◌, ◌++◌, map, append_assoc, append-nil}
 use Prim.Native.Nat.{ℕ, zero, suc, ◌+◌, ◌/◌, ◌%◌, ◌≤◌, ◌<◌}
 use native.Mathlib.Omega.{arith}
-use borrow.Author.Tests.{eq-eqb, ne_eqb, ltb-true, ltb-false}
+use borrow.Author.Tests.{eq-eqb, ne_eqb}
 use lib.Dec.{eqb, ltb}
 use lib.Ieee.{Float, binary64, to_bits}
 use Rattle.text.specs.Decimal.{digits, decimal_text}
-use Rattle.text.specs.Hex.{hex_digit, hex_digits, hex_text, bits_text}
+use Rattle.text.specs.Hex.{hex_digit, hex_digits, bits_text}
 use Rattle.answer_text.specs.AnswerText.{tab, lf, numbers_text, line_text, lines_text, point_text, points_text}
 use Rattle.tile_text.specs.Reading.{parts, headed, fields_of}
 

@@ -1,15 +1,14 @@
 -- A text is readable exactly when it is the writing of a list that is allowed: the proof of specs/Readable.
 use mathlib.Core.Path.{◌≡◌, refl, sym, ◌∙◌, ap}
-use mathlib.Core.Bool.{Bool, true, false, cond, ◌&&◌, true≢false}
+use mathlib.Core.Bool.{Bool, true, false, cond, ◌&&◌}
 use mathlib.Core.List.{List}
-use mathlib.Core.Option.{Option, none, some, none-ne-some, some-injective}
+use mathlib.Core.Option.{none, some, none-ne-some, some-injective}
 use Prim.Native.Nat.{ℕ}
 use Rattle.text.specs.Decimal.{same_bytes}
 use Rattle.text.proofs.Spelling.{same_is, is_same}
 use Rattle.tile_text.specs.TileList.{TileList, list_text, allowed}
 use Rattle.tile_text.specs.Reading.{fields_of, said, read_list}
 use Rattle.tile_text.specs.Readable.{F64s, ReadableLists}
-use Rattle.tile_text.specs.Plain.{Plain}
 use Rattle.tile_text.proofs.Allowing.{both_true, allowed_is, plain}
 use Rattle.tile_text.proofs.Saying.{said_back}
 

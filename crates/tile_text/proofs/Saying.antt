@@ -1,24 +1,23 @@
 -- What the lines of a writing say is what was written.
 use mathlib.Core.Path.{◌≡◌, refl, sym, ◌∙◌, ap}
-use mathlib.Core.Bool.{Bool, true, false, cond}
-use mathlib.Core.List.{List, [], ◌∷◌, ◌++◌, map, append_assoc, append-nil}
-use Prim.Native.Nat.{ℕ, zero, suc, ◌+◌, ◌*◌, ◌^◌, ◌≤◌, ◌<◌}
+use mathlib.Core.Bool.{true, false}
+use mathlib.Core.List.{List, [], ◌∷◌, ◌++◌, map, append-nil}
+use Prim.Native.Nat.{ℕ, zero, suc, ◌+◌}
 use native.Mathlib.Omega.{arith}
-use lib.Dec.{T, eqb, ltb}
-use lib.ListN.{length, get_or, length-append}
+use lib.Dec.{T}
+use lib.ListN.{length}
 use lib.Ieee.{Float, binary64, fits, of_bits, to_bits}
 use lib.Ieee.Bits.{of_bits-to_bits, to_bits-lt}
-use Rattle.float.specs.Helpers.{decimal}
-use Rattle.state.specs.State.{State, Quad, quad_nodes, joined, nodes, counts_of}
-use Rattle.text.specs.Decimal.{decimal_text, spelled, same_bytes}
-use Rattle.text.specs.Hex.{hex_spelled, hex_text, bits_text}
+use Rattle.state.specs.State.{Quad, quad_nodes, joined, nodes, counts_of}
+use Rattle.text.specs.Decimal.{decimal_text, same_bytes}
+use Rattle.text.specs.Hex.{bits_text}
 use Rattle.text.proofs.Writings.{spelled-digits}
 use Rattle.text.proofs.HexLaws.{hex_spelled_lem}
-use Rattle.answer_text.specs.AnswerText.{lines_text, line_text, points_text, count_numbers, state_text}
-use Rattle.tile_text.specs.TileList.{TileList, list_text, loops_text}
+use Rattle.answer_text.specs.AnswerText.{lines_text, points_text, count_numbers, state_text}
+use Rattle.tile_text.specs.TileList.{TileList, list_text}
 use Rattle.tile_text.specs.Reading.{parts, fields_of, worded, numbers, coordinate, quad_of, said}
 use Rattle.tile_text.specs.Plain.{U16s, FiniteF64s, Plain}
-use Rattle.tile_text.proofs.Parts.{Free, number_line, point_line, point_lines, line_fields, lines_fields, points_fields}
+use Rattle.tile_text.proofs.Parts.{number_line, point_lines, line_fields, lines_fields, points_fields}
 
 -- ---- lines of one word among others
 

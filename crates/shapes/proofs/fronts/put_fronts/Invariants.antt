@@ -1,0 +1,14 @@
+-- `shapes::fronts::put_fronts` meets its contract. The invariant: the fronts from i on are left, and their nodes begin at `start`. The measure is their number.
+use Prim.Native.Nat.{◌+◌, ◌-◌, ◌≤◌}
+use lib.ListN.{length, drop}
+use Rattle.geometry.specs.Domain.{sum_of}
+use Rattle.state.specs.State.{cut}
+use Rattle.text.proofs.Midst.{Midst}
+use Rattle.shapes.specs.Shapes.{fronts_text}
+use Rattle.shapes.proofs.fronts.put_fronts.Given as goal
+
+abbrev pub invariant-loop-i : goal.invariant-loop-i
+invariant-loop-i l = (l.i ≤ length l.lengths) × (l.start + sum_of (drop l.i l.lengths) ≤ length l.nodes) × Midst l.initial.out l.at (fronts_text l.points (cut l.lengths l.nodes)) l.out l.next (fronts_text l.points (cut (drop l.i l.lengths) (drop l.start l.nodes)))
+
+abbrev pub decreases-loop-i : goal.decreases-loop-i
+decreases-loop-i l = length l.lengths - l.i
