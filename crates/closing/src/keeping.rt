@@ -31,7 +31,7 @@ fn move_down(nodes: &mut [u16], to: usize, from: usize, n: usize)
 }
 
 // Where the next kept front goes: its place among the nodes, and among the lengths.
-#[derive(Drop)]
+#[derive(Clone, Copy)]
 pub struct Place {
     pub node: usize,
     pub front: usize,

@@ -7,7 +7,7 @@ ghost use Rattle.closing_search.specs.Closures.{closure_quads, split_of};
 use crate::quads::{Quad, least_of, passes, quad_on};
 
 // What closes a front: nothing, and it is kept, or its quads.
-#[derive(Drop)]
+#[derive(Clone, Copy)]
 pub enum Closure {
     Kept,
     One(Quad),
@@ -15,7 +15,7 @@ pub enum Closure {
 }
 
 // The best split so far of a front of six nodes, with its least corner value.
-#[derive(Drop)]
+#[derive(Clone, Copy)]
 pub struct Split {
     pub closure: Closure,
     pub score: f64,

@@ -9,7 +9,7 @@ ghost use Rattle.closing_search.specs.Closures.{Within, quad_of};
 use geometry::{Point, point_at, wide};
 
 // Four node numbers, in order round a quad.
-#[derive(Drop)]
+#[derive(Clone, Copy)]
 pub struct Quad {
     pub a: u16,
     pub b: u16,
@@ -18,7 +18,7 @@ pub struct Quad {
 }
 
 // The points of a quad's nodes.
-#[derive(Drop)]
+#[derive(Clone, Copy)]
 struct Corners {
     a: Point,
     b: Point,

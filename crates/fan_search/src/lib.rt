@@ -12,7 +12,7 @@ pub use quads::is_turned;
 pub use trial::try_fan;
 
 // The box of a front's points.
-#[derive(Drop)]
+#[derive(Clone, Copy)]
 pub struct Box {
     pub left: f64,
     pub low: f64,
@@ -22,7 +22,7 @@ pub struct Box {
 
 // The best point of the grid so far, its distance to the front and the square of that, and the side that a point was last found too
 // near to.
-#[derive(Drop)]
+#[derive(Clone, Copy)]
 pub struct Centre {
     pub point: Point,
     pub clearance: f64,
@@ -31,14 +31,14 @@ pub struct Centre {
 }
 
 // The sides of a front seen from a point: the first that is too near, or the least square of the distances to them.
-#[derive(Drop)]
+#[derive(Clone, Copy)]
 pub enum Sides {
     Near(usize),
     Clear(f64),
 }
 
 // The points of a quad's three front nodes, in turn.
-#[derive(Drop)]
+#[derive(Clone, Copy)]
 pub struct Three {
     pub a: Point,
     pub b: Point,
@@ -46,7 +46,7 @@ pub struct Three {
 }
 
 // A fan tried: it stands, with its centre, or it is refused with a number.
-#[derive(Drop)]
+#[derive(Clone, Copy)]
 pub enum Tried {
     Stands(Point),
     Refused(u32),

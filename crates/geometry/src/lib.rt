@@ -17,7 +17,7 @@ pub use points::{next_of, node_point, point_at, prev_of, put_point, wide};
 pub use rings::{front_distance, front_length, in_front, in_polygon, sharp_at, signed_area};
 pub use sides::{ray_crosses, segment_distance, segment_square, segments_cross, side_length};
 
-#[derive(Drop)]
+#[derive(Clone, Copy)]
 pub struct Point {
     pub x: f64,
     pub y: f64,

@@ -11,7 +11,7 @@ pub use input::input_number;
 
 // The Rust's `Options`, by value: margins, fractions and gaps in sizes h, the limit of passes, and `seam`; and the
 // corner limit, which every corner value of a quad has to be above.
-#[derive(Drop)]
+#[derive(Clone, Copy)]
 pub struct Options {
     pub corner_margin: f64,
     pub min_edge_fraction: f64,

@@ -8,7 +8,7 @@ use crate::loops::{LoopsRead, read_loops};
 use text::begins_with;
 
 // What a text is: no job; a job with too many loops or pairs; or a job with its size, and how many pairs and loops were stored.
-#[derive(Drop)]
+#[derive(Clone, Copy)]
 pub enum JobRead {
     Unreadable,
     TooMany,

@@ -6,14 +6,14 @@ ghost use Rattle.job_text.specs.Answers.{measure_of, as_whole, line_of};
 use text::{Number, begins_with, field_end, natural};
 
 // A number read, as an f64, with the place behind it.
-#[derive(Drop)]
+#[derive(Clone, Copy)]
 pub enum Measure {
     Is(f64, usize),
     No,
 }
 
 // A point read, with the place behind its line.
-#[derive(Drop)]
+#[derive(Clone, Copy)]
 pub enum AtLine {
     Is(f64, f64, usize),
     No,

@@ -12,14 +12,14 @@ use crate::lines::{AtLine, read_at};
 use text::begins_with;
 
 // The points of a loop, counted, and the place behind its last line.
-#[derive(Drop)]
+#[derive(Clone, Copy)]
 pub struct LoopRead {
     pub next: usize,
     pub count: usize,
 }
 
 // All loops, with those before: how many pairs and how many loops.
-#[derive(Drop)]
+#[derive(Clone, Copy)]
 pub enum LoopsRead {
     Are(usize, usize),
     No,

@@ -12,7 +12,7 @@ use crate::place::place;
 use planning::{all_apart, keep_points, kept_ring, plan_sides};
 
 // One loop sampled: the nodes planned and the nodes placed, or the number of its refusal.
-#[derive(Drop)]
+#[derive(Clone, Copy)]
 pub enum Made {
     Nodes { planned: usize, placed: usize },
     Refused(u32),

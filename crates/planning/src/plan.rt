@@ -13,14 +13,14 @@ ghost use Rattle.planning.specs.Measured.{Measured};
 use crate::sides::measure_sides;
 
 // The nodes planned, where inner points over 2,048 count as 2,049; and the longest side with a positive span.
-#[derive(Drop)]
+#[derive(Clone, Copy)]
 pub struct Plan {
     pub total: usize,
     pub longest: usize,
 }
 
 // A side and its length.
-#[derive(Drop)]
+#[derive(Clone, Copy)]
 struct Best {
     side: usize,
     length: f64,

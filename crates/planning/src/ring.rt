@@ -12,7 +12,7 @@ use crate::keep::unclosed;
 use geometry::Point;
 
 // A loop's ring: the first `size` of the points kept, read backwards if `back`.
-#[derive(Drop)]
+#[derive(Clone, Copy)]
 pub struct Turned {
     pub size: usize,
     pub back: bool,

@@ -12,7 +12,7 @@ mod trial;
 pub use trial::try_row;
 
 // A row tried: it stands, or it is refused with a number.
-#[derive(Drop)]
+#[derive(Clone, Copy)]
 pub enum Tried {
     Stands,
     Refused(u32),

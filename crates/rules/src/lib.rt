@@ -3,7 +3,7 @@
 #![tactic(auto)]
 
 // What projecting a front's node inward answers: a point with its two coordinates, or nothing.
-#[derive(Drop)]
+#[derive(Clone, Copy)]
 pub enum Projection {
     At(f64, f64),
     Nothing,

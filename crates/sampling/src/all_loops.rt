@@ -9,7 +9,7 @@ use placing::{Made, sample_loop};
 use state::{narrow, put_numbers};
 
 // All loops sampled: how many nodes they have, or the number of a refusal.
-#[derive(Drop)]
+#[derive(Clone, Copy)]
 pub enum Total {
     Nodes(usize),
     Refused(u32),

@@ -10,7 +10,7 @@ pub use buffers::{answer_buffer, input_buffer, list_buffer, list_input, picture_
 use std::io::Read;
 
 // How many bytes came before the input's end or the buffer's, or a read that failed.
-#[derive(Drop)]
+#[derive(Clone, Copy)]
 pub enum Input {
     Bytes(usize),
     Failed,

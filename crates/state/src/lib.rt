@@ -17,7 +17,7 @@ pub use fronts::{front_at, nodes_of, sum_of};
 pub use given::wrong_state;
 
 // The eight counts of document 01.
-#[derive(Drop)]
+#[derive(Clone, Copy)]
 pub struct Counts {
     pub points: usize,
     pub quads: usize,
@@ -30,14 +30,14 @@ pub struct Counts {
 }
 
 // What a call answers: done, with the counts, or refused, with document 01's number.
-#[derive(Drop)]
+#[derive(Clone, Copy)]
 pub enum Answer {
     Done(Counts),
     Refused(u32),
 }
 
 // A front's place among the nodes of all fronts: where it starts, and how many nodes it has.
-#[derive(Drop)]
+#[derive(Clone, Copy)]
 pub struct Front {
     pub start: usize,
     pub len: usize,

@@ -5,7 +5,7 @@ ghost use Rattle.text.specs.Decimal.{natural_of};
 ghost use Rattle.text.specs.Number.{number_in, spelling};
 
 // A number, or none.
-#[derive(Drop)]
+#[derive(Clone, Copy)]
 pub enum Number {
     Is(u32),
     No,

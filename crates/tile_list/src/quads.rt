@@ -8,7 +8,7 @@ ghost use Rattle.tile_text.specs.TileList.{every_quad, four_different};
 use geometry::{point_at, wide};
 
 // The nodes of a quad, in order round it.
-#[derive(Drop)]
+#[derive(Clone, Copy)]
 struct Four {
     a: u16,
     b: u16,

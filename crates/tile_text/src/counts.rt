@@ -10,7 +10,7 @@ use state::Counts;
 use text::begins_with;
 
 // The counts, and the place behind the line.
-#[derive(Drop)]
+#[derive(Clone, Copy)]
 pub struct DoneRead {
     pub next: usize,
     pub counts: Counts,

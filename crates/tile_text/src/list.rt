@@ -9,7 +9,7 @@ use crate::rings::read_rings;
 use state::Counts;
 
 // How many loops there are, and the counts of the state.
-#[derive(Drop)]
+#[derive(Clone, Copy)]
 pub struct ListRead {
     pub loops: usize,
     pub counts: Counts,

@@ -7,7 +7,7 @@ ghost use Rattle.tile_text.specs.Fields.{NumbersReadIs};
 use text::{Number, field_end, natural};
 
 // How many numbers came, and the place behind them.
-#[derive(Drop)]
+#[derive(Clone, Copy)]
 pub struct NumbersRead {
     pub next: usize,
     pub count: usize,

@@ -5,7 +5,7 @@ ghost use Rattle.tile_text.specs.Fields.{RingsReadIs};
 use crate::numbers::{read_numbers, store};
 
 // How many lines came, and the place behind them.
-#[derive(Drop)]
+#[derive(Clone, Copy)]
 pub struct LinesRead {
     pub next: usize,
     pub count: usize,

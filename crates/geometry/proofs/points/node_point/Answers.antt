@@ -1,0 +1,5 @@
+use borrow.Author.Rules.{rules}
+use Rattle.geometry.proofs.points.node_point.Goals as goal
+
+pub returns : goal.returns
+returns c = rw (c.point_at.ensures, c.wide-node.ensures)

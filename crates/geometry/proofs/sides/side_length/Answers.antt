@@ -1,0 +1,7 @@
+use Rattle.geometry.specs.Measures.{side_length}
+use borrow.Author.Rules.{rules}
+use Rattle.geometry.proofs.sides.side_length.Goals as goal
+
+pub returns : goal.returns
+unfolding side_length
+returns c = c.root.ensures
