@@ -3,8 +3,9 @@
 
 mod buffers;
 
-ghost use Rattle.std.specs.Prelude.{◌≤◌, length};
-ghost use Rattle.standard.specs.Input.{Reached};
+ghost use Rattle.std.specs.Prelude.{◌≡◌, ◌<◌, ◌≤◌, length, take, drop};
+ghost use Rattle.std.specs.Io.KnownBytes.{Consumes, IsAtEnd};
+ghost use Rattle.standard.specs.Input.{IfBytes, Reached};
 
 pub use buffers::{answer_buffer, input_buffer, list_buffer, list_input, picture_buffer};
 use std::io::Read;
@@ -17,8 +18,10 @@ pub enum Input {
 }
 
 // One read.
-fn read_piece(from: &mut impl Read, part: &mut [u8]) -> Input
-    ensures { Reached result 0 (length part.old) (length part.new) }
+fn read_piece<R: Read>(from: &mut R, part: &mut [u8]) -> Input
+    ensures reached { Reached result 0 (length part.old) (length part.new) }
+    ensures bytes { IfBytes result (λ n. Consumes (R.remaining from.old) (R.remaining from.new) (take n part.new)) }
+    ensures end { IfBytes result (λ n. n ≡ 0 → 0 < length part.new → IsAtEnd (R.remaining from.new)) }
 {
     match from.read(part) {
         Ok(n) => Input::Bytes(n),
@@ -27,9 +30,12 @@ fn read_piece(from: &mut impl Read, part: &mut [u8]) -> Input
 }
 
 // One read behind the first `done` bytes: how many there are then.
-fn read_behind(from: &mut impl Read, buf: &mut [u8], done: usize) -> Input
+fn read_behind<R: Read>(from: &mut R, buf: &mut [u8], done: usize) -> Input
     requires { done ≤ length buf.old }
-    ensures { Reached result done (length buf.old) (length buf.new) }
+    ensures reached { Reached result done (length buf.old) (length buf.new) }
+    ensures front { take done buf.new ≡ take done buf.old }
+    ensures bytes { IfBytes result (λ n. Consumes (R.remaining from.old) (R.remaining from.new) (drop done (take n buf.new))) }
+    ensures end { IfBytes result (λ n. n ≡ done → done < length buf.new → IsAtEnd (R.remaining from.new)) }
 {
     let Input::Bytes(n) = read_piece(from, &mut buf[done..]) else {
         return Input::Failed;
@@ -38,8 +44,12 @@ fn read_behind(from: &mut impl Read, buf: &mut [u8], done: usize) -> Input
 }
 
 // Reads until the input ends, the buffer is full, or a read fails. A slow writer's pieces come one after the other.
-pub fn read_input(from: &mut impl Read, buf: &mut [u8]) -> Input
-    ensures { Reached result 0 (length buf.old) (length buf.new) }
+pub fn read_input<R: Read>(from: &mut R, buf: &mut [u8]) -> Input
+    ensures reached { Reached result 0 (length buf.old) (length buf.new) }
+
+    // Where it is known what the reader has: the buffer begins with it, and holds all of it unless it is full.
+    ensures bytes { IfBytes result (λ n. Consumes (R.remaining from.old) (R.remaining from.new) (take n buf.new)) }
+    ensures end { IfBytes result (λ n. n < length buf.new → IsAtEnd (R.remaining from.new)) }
 {
     let mut done = 0usize;
     while done < buf.len() {
