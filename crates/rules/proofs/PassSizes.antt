@@ -11,7 +11,7 @@ use lib.Seq.{get_or-set_other}
 use lib.Ieee.{Float, nan, lt}
 use Rattle.float.proofs.Within.{Within}
 use Rattle.geometry.specs.Rings.{node_ring}
-use Rattle.geometry.proofs.Sizes.{All, all_less, all_append, RingWithin, point_at}
+use Rattle.geometry.proofs.Sizes.{All, all_less, all_append, RingWithin, point_at_lem}
 use Rattle.state.specs.State.{State, nodes, numbered}
 use Rattle.state.specs.Outcome.{Outcome, refused, gives}
 use Rattle.state.proofs.Outcomes.{gives_same, not_both}
@@ -108,7 +108,7 @@ module _ (j : Job) (lim : Limited j) (n : ℕ) (few : n + 6000000 ≤ 2 ^ 52) wh
       let k = get_or (front s li) i 0 in
       let here = occurs_here (front s li) i l in
       elim (below_or_from k (nodes s)) [
-        | inl h ↦ point_at n s.points k (omega arith) a
+        | inl h ↦ point_at_lem n s.points k (omega arith) a
         | inr h ↦ absurd (omega (arith, occurs_le k s.fronts li, g.good.low k h))
       ]
 

@@ -15,7 +15,7 @@ use Rattle.float.proofs.Order.{clear}
 use Rattle.float.proofs.Within.{Within, NotNegative, right_within, within_right, tested_not_negative, above_clear, tested_within}
 use Rattle.geometry.specs.Rings.{Ring}
 use Rattle.geometry.specs.Domain.{rings, sum_of}
-use Rattle.geometry.proofs.Sizes.{All, all_append, all_none, all_drop, RingWithin, point_at}
+use Rattle.geometry.proofs.Sizes.{All, all_append, all_none, all_drop, RingWithin, point_at_lem}
 use Rattle.state.specs.State.{State, Lengths}
 use Rattle.state.specs.Coordinates.{outside, wrong_coordinate}
 use Rattle.state.specs.Outcome.{Outcome, refused, gives}
@@ -90,7 +90,7 @@ rings_within : (n : ℕ) (coords : List Float) (loops : List ℕ) → sum_of loo
 unfolding EachWithin rings sum_of
 rings_within n coords [] l h = tt
 rings_within n coords (k ∷ loops) l h = (
-  λ i m. point_at n coords i (omega arith) h,
+  λ i m. point_at_lem n coords i (omega arith) h,
   rings_within n (drop (k * 2) coords) loops (omega (arith, length-drop (k * 2) coords)) (all_drop n (k * 2) coords h),
 )
 

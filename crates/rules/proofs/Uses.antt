@@ -105,7 +105,7 @@ step_follows {loops} {limits} {b} limit input step lays h = go (stepped (eqb num
         all (q ∷ qs) = ap (λ x. q ∷ x) (all qs)
     go (gives t) d = granted t (laid t (eqb number 0) d)
 
-pub call_follows : {loops : List (List ℕ)} {limits : List Float} {b c : Held} {limit : Float} → Holds loops limits b → Called b limit c → Follows loops limits b limit c
+pub call_follows : {loops : List (List ℕ)} {limits : List Float} {b : Held} {limit : Float} {c : Held} → Holds loops limits b → Called b limit c → Follows loops limits b limit c
 unfolding row_call close_call fan_call
 call_follows h (by_row {b} j li) = step_follows j.options.corner_limit (input_number j (lengths b)) (row_at j li) (row_lays j li) h
 call_follows h (by_closing {b} j) = step_follows j.options.corner_limit (input_number j (lengths b)) (closings j.options.corner_limit) (closings_lay j.options.corner_limit) h

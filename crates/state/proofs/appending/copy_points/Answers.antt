@@ -19,7 +19,6 @@ bounds-more-i c = omega arith
 pub overflow_add-points : goal.overflow_add-points
 overflow_add-points c = omega arith
 
--- TODO well_formed
 pub offset_bounds-points-at : goal.offset_bounds-points-at
 offset_bounds-points-at c =
     scaled_Fits _ (length c.args.points.now) 8 (omega arith) c.well_formed.0.1

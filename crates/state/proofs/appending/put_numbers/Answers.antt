@@ -21,7 +21,6 @@ narrow-requires c = omega arith
 pub overflow_add-nodes : goal.overflow_add-nodes
 overflow_add-nodes c = omega arith
 
--- TODO well_formed
 pub offset_bounds-nodes-start : goal.offset_bounds-nodes-start
 offset_bounds-nodes-start c =
     scaled_Fits _ (length c.args.nodes.now) 2 (omega arith) c.well_formed.0.1

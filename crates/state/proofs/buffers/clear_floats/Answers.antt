@@ -12,7 +12,6 @@ use Rattle.state.proofs.buffers.clear_floats.Goals as goal
 pub loop-i-init : goal.loop-i-init
 loop-i-init c = (omega arith, refl, refl)
 
--- TODO well_formed
 pub offset_bounds-s-i : goal.offset_bounds-s-i
 offset_bounds-s-i c = scaled_Fits c.loop-i.i (length c.args.s.now) 8 (omega arith) c.well_formed.0.1
 

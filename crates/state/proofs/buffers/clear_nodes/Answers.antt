@@ -10,7 +10,6 @@ use Rattle.state.proofs.buffers.clear_nodes.Goals as goal
 pub loop-node-init : goal.loop-node-init
 loop-node-init c = (omega arith, refl, refl)
 
--- TODO well_formed
 pub offset_bounds-s-node : goal.offset_bounds-s-node
 offset_bounds-s-node c = scaled_Fits c.loop-node.node (length c.args.s.now) 2 (omega arith) c.well_formed.0.1
 

@@ -11,7 +11,6 @@ use Rattle.state.proofs.coordinates.wrong_coordinate.Goals as goal
 pub loop-i-init : goal.loop-i-init
 loop-i-init c = (omega arith, refl)
 
--- TODO well_formed
 pub offset_bounds-coords-i : goal.offset_bounds-coords-i
 offset_bounds-coords-i c =
     scaled_Fits c.loop-i.i (length c.args.coords.now) 8 (omega arith) c.well_formed.1.0.1

@@ -6,7 +6,6 @@ use lib.Seq.{length-take-le}
 use borrow.Author.Rules.{rules}
 use Rattle.state.proofs.fronts.front_at.Goals as goal
 
--- TODO before c.before.before.args.lengths.now
 pub slice_bounds-sum_of-end : goal.slice_bounds-sum_of-end
 slice_bounds-sum_of-end c = sym (length-take-le _ c.before.before.args.lengths.now (omega arith))
 

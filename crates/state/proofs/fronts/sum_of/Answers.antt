@@ -11,7 +11,6 @@ use Rattle.state.proofs.fronts.sum_of.Goals as goal
 pub loop-i-init : goal.loop-i-init
 loop-i-init c = (omega arith, zero-add _, omega arith)
 
--- TODO well_formed
 pub offset_bounds-lengths-i : goal.offset_bounds-lengths-i
 offset_bounds-lengths-i c =
     scaled_Fits c.loop-i.i (length c.args.lengths.now) 2 (omega arith) c.well_formed.0.1

@@ -1,0 +1,26 @@
+-- `crossing::simple::sides_cross` meets its contract. The invariants: no crossing was found by the definition's search of the sides passed, and of this side with those passed, and the test of the end of the last is kept. The measures are the sides left.
+use mathlib.Core.Path.{◌≡◌, refl, ◌∙◌, sym, ap}
+use mathlib.Core.Bool.{true, false}
+use Prim.Native.Nat.{◌+◌, ◌≤◌, ◌-◌}
+use native.Mathlib.Omega.{arith}
+use borrow.Author.Rules.{rules}
+use Rattle.geometry.specs.Rings.{Ring, ring_of, point_at, next}
+use Rattle.rules.specs.Simple.{search as search_of}
+use Rattle.rules.specs.Simple.{search_side, sides_cross}
+use Rattle.crossing.specs.Right.{right_of}
+use Rattle.pairs.proofs.Sides.{next_inner}
+use Rattle.crossing.proofs.Searching.{not_neighbours, sides-cross, tested, side_more, side_begun, side_closed, side_done, last_two, found, found_closing, none_yet}
+use Rattle.crossing.proofs.simple.sides_cross.Given as goal
+
+abbrev pub invariant-loop-j : goal.invariant-loop-j
+invariant-loop-j l =
+    (l.i + 2 ≤ l.j) × (l.j ≤ l.last) × (l.crossed ≡ false) × ((search_side (ring_of l.ring l.n) l.i (l.j - (l.i + 1)) (search_of (ring_of l.ring l.n) l.i)).crossed ≡ false) × (l.right ≡ right_of l.a l.b (point_at l.ring l.j))
+
+abbrev pub decreases-loop-j : goal.decreases-loop-j
+decreases-loop-j l = l.last - l.j
+
+abbrev pub invariant-sides : goal.invariant-sides
+invariant-sides l = (l.i + 2 ≤ l.n) × (l.crossed ≡ false) × ((search_of (ring_of l.ring l.n) l.i).crossed ≡ false)
+
+abbrev pub decreases-sides : goal.decreases-sides
+decreases-sides l = l.n - l.i

@@ -1,0 +1,16 @@
+-- `planning::keep::keep_points` meets its contract. The invariant: the buffer begins with the points that the definition keeps of the first k.
+use Rattle.planning.proofs.Keeping.{keep_step}
+use mathlib.Core.Path.{◌≡◌, refl, ◌∙◌}
+use Prim.Native.Nat.{◌≤◌, ◌-◌, ◌*◌}
+use native.Mathlib.Omega.{arith}
+use lib.ListN.{length}
+use lib.Seq.{sets}
+use Rattle.geometry.specs.Rings.{ring_of}
+use Rattle.planning.specs.Ring as rings
+use Rattle.planning.proofs.keep.keep_points.Given as goal
+
+abbrev pub invariant-loop-k : goal.invariant-loop-k
+invariant-loop-k l = (l.k ≤ l.n) × (l.m ≤ l.k) × (l.m * 2 ≡ length (rings.kept (ring_of l.coords l.n) l.k)) × (l.kept ≡ sets l.initial.kept 0 (rings.kept (ring_of l.coords l.n) l.k)) × (length l.kept ≡ length l.initial.kept)
+
+abbrev pub decreases-loop-k : goal.decreases-loop-k
+decreases-loop-k l = l.n - l.k
