@@ -66,13 +66,13 @@ fn make(
 }
 
 // The counts after an answer. A refusal is printed, and changes nothing.
-fn counts_after(counts: Counts, answer: Answer) -> Counts
+fn counts_after(rt: &impl Print, counts: Counts, answer: Answer) -> Counts
     ensures { result ≡ answer_counts counts answer }
 {
     match answer {
         Answer::Done(more) => more,
         Answer::Refused(number) => {
-            show_refused(number);
+            show_refused(rt, number);
             counts
         }
     }
@@ -80,6 +80,7 @@ fn counts_after(counts: Counts, answer: Answer) -> Counts
 
 // Makes the calls in turn. The counts after them.
 fn make_all(
+    rt: &impl Print,
     coords: &[f64],
     loops: &[u16],
     h: f64,
@@ -109,14 +110,21 @@ fn make_all(
             front_lengths,
             counts,
         );
-        counts = counts_after(counts, answer);
+        counts = counts_after(rt, counts, answer);
         k += 1;
     }
     counts
 }
 
 // The state of the first letter, the calls of the others, and the state that they come to. The buffers start full of other numbers.
-pub fn run(h: f64, options: Options, coords: &[f64], loops: &[u16], letters: &[u8]) {
+pub fn run(
+    rt: &impl Print,
+    h: f64,
+    options: Options,
+    coords: &[f64],
+    loops: &[u16],
+    letters: &[u8],
+) {
     if letters.len() == 0 {
         return;
     }
@@ -135,9 +143,10 @@ pub fn run(h: f64, options: Options, coords: &[f64], loops: &[u16], letters: &[u
         &mut front_nodes,
         &mut front_lengths,
     ) {
-        Answer::Refused(number) => show_refused(number),
+        Answer::Refused(number) => show_refused(rt, number),
         Answer::Done(first) => {
             let counts = make_all(
+                rt,
                 coords,
                 loops,
                 h,
@@ -149,7 +158,7 @@ pub fn run(h: f64, options: Options, coords: &[f64], loops: &[u16], letters: &[u
                 &mut front_lengths,
                 first,
             );
-            show_state(&points, &quads, &front_nodes, &front_lengths, counts);
+            show_state(rt, &points, &quads, &front_nodes, &front_lengths, counts);
         }
     }
 }

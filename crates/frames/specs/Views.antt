@@ -36,7 +36,7 @@ unfoldable pub size_text : Box → Float → List ℕ
 size_text b m = across_text (view_width b m ⊘ decimal 72 0)
 
 unfoldable pub opening : List ℕ
-opening = ascii "<svg xmlns=\"http://www.w3.org/2000/svg\" view_box=\""
+opening = ascii "<svg xmlns=\"http://www.w3.org/2000/svg\" viewBox=\""
 
 unfoldable pub paper : List ℕ
 paper = ascii "\">\n<style>svg{background:#fff;font-family:sans-serif}text{text-anchor:middle}path{stroke-linejoin:round;stroke-linecap:round;stroke:#fff;stroke-width:.05em}\n"

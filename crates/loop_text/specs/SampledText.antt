@@ -1,6 +1,6 @@
 -- From the text of a job to the `s` lines of its sampled loops. Definitions only.
 use Rattle.std.specs.Prelude.{ℕ, List}
-use Rattle.std.proofs.Math.Option.{Option·elim}
+use Rattle.std.proofs.Math.Option.{Option-elim}
 use Rattle.state.specs.declared.Answer.{Answer}
 use Rattle.state.specs.declared.Answer.TheVariants.{Done, Refused}
 use Rattle.state.specs.State.{Held, reading}
@@ -21,4 +21,4 @@ loop_lines x = lines_of x.answer x.held
 
 -- number 11 for a text that is no job's, otherwise what sampling makes of the job that it is
 unfoldable pub sampled_text : List ℕ → List ℕ
-sampled_text t = Option·elim (read_job t) (refused_text 11) (λ (d : Drawing). loop_lines (sample_call (job_of d) lent))
+sampled_text t = Option-elim (read_job t) (refused_text 11) (λ (d : Drawing). loop_lines (sample_call (job_of d) lent))

@@ -5,15 +5,15 @@
 
 use standard::Input;
 
-fn main() {
+fn main(rt: HostRuntime) {
     let mut input = standard::input_buffer();
-    let Input::Bytes(n) = standard::read_input(&mut input) else {
-        standard::say_unread();
+    let Input::Bytes(n) = standard::read_input(&mut rt.stdin(), &mut input) else {
+        standard::say_unread(&rt);
         return;
     };
     let mut output = standard::answer_buffer();
     let m = loop_text::put_loops(&mut output, &input[..n]);
     if m <= output.len() {
-        standard::write_output(&output[..m]);
+        standard::write_output(&rt, &output[..m]);
     }
 }

@@ -1,6 +1,6 @@
 -- The picture of a job's text. Definitions only.
 use Rattle.std.specs.Prelude.{ℕ, cond, List, eqb, ltb}
-use Rattle.std.proofs.Math.Option.{Option, Option·elim}
+use Rattle.std.proofs.Math.Option.{Option, Option-elim}
 use Rattle.std.proofs.Math.ListN as lists
 use Rattle.state.specs.Call.{lent}
 use Rattle.state.specs.State.{padded}
@@ -18,7 +18,7 @@ job_picture j = cond (eqb (lists.length j.coords) 0) (words_text 4) (answer_pict
 
 -- words alone for a text that is no job's, and for one with more loops or points than a job may have
 unfoldable pub draw_text : List ℕ → List ℕ
-draw_text t = Option·elim (read_job t) (words_text 11) (λ (d : Drawing). cond (too_many d) (words_text 1) (job_picture (job_of d)))
+draw_text t = Option-elim (read_job t) (words_text 11) (λ (d : Drawing). cond (too_many d) (words_text 1) (job_picture (job_of d)))
 
 -- ---- the call
 

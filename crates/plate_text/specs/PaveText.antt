@@ -1,6 +1,6 @@
 -- From the text of a job to the text of its answer. Definitions only.
 use Rattle.std.specs.Prelude.{ℕ, cond, List, ltb}
-use Rattle.std.proofs.Math.Option.{Option, Option·elim}
+use Rattle.std.proofs.Math.Option.{Option, Option-elim}
 use Rattle.std.proofs.Math.ListN as lists
 use Rattle.state.specs.State.{padded}
 use Rattle.state.specs.Call.{lent}
@@ -11,7 +11,7 @@ use Rattle.answer_text.specs.AnswerText.{answer_text, refused_text}
 
 -- Number 11 for a text that is no job's, which comes before every other number; otherwise the answer of the job that it is.
 unfoldable pub pave_text : List ℕ → List ℕ
-pave_text t = Option·elim (read_job t) (refused_text 11) (λ (d : Drawing). answer_text (job_call (job_of d) lent))
+pave_text t = Option-elim (read_job t) (refused_text 11) (λ (d : Drawing). answer_text (job_call (job_of d) lent))
 
 -- ---- the call
 

@@ -3,25 +3,26 @@ use calls::run;
 use input::{Options, default_limit, defaults};
 use showing::line;
 
-fn pave(name: &[u8], h: f64, options: Options, coords: &[f64]) {
-    line(name);
+fn pave(rt: &impl Print, name: &[u8], h: f64, options: Options, coords: &[f64]) {
+    line(rt, name);
     let n = coords.len() / 2;
     if n < 65536 {
-        run(h, options, coords, &[state::narrow(n)], b"j");
+        run(rt, h, options, coords, &[state::narrow(n)], b"j");
     }
 }
 
 // The square of side 3,000 with two sizes.
-fn sizes() {
+fn sizes(rt: &impl Print) {
     let square = [0.0, 0.0, 3000.0, 0.0, 3000.0, 3000.0, 0.0, 3000.0];
-    pave(b"size 0", 0.0, defaults(), &square);
-    pave(b"size 0.0005", 0.0005, defaults(), &square);
+    pave(rt, b"size 0", 0.0, defaults(), &square);
+    pave(rt, b"size 0.0005", 0.0005, defaults(), &square);
 }
 
 // Sides of 1e-12.
-fn sides() {
+fn sides(rt: &impl Print) {
     let three = [0.0, 0.0, 1e-12, 0.0, 0.5, 0.5];
     pave(
+        rt,
         b"three points, two of them 1e-12 apart",
         1.0,
         defaults(),
@@ -29,6 +30,7 @@ fn sides() {
     );
     let five = [0.0, 0.0, 1e-12, 0.0, 1.0, 0.0, 1.0, 1.0, 0.0, 1.0];
     pave(
+        rt,
         b"five points, two of them 1e-12 apart",
         1.0,
         defaults(),
@@ -48,7 +50,7 @@ fn with_limit(corner_limit: f64) -> Options {
 }
 
 // Options that are no defaults, so that two of them exchanged give another answer. A corner limit of 0.8 refuses the row.
-fn other_options(name: &[u8], corner_limit: f64) {
+fn other_options(rt: &impl Print, name: &[u8], corner_limit: f64) {
     let options = Options {
         corner_margin: 1.5,
         min_edge_fraction: 0.3,
@@ -58,13 +60,14 @@ fn other_options(name: &[u8], corner_limit: f64) {
         corner_limit,
     };
     let square = [0.0, 0.0, 10000.0, 0.0, 10000.0, 10000.0, 0.0, 10000.0];
-    pave(name, 1000.0, options, &square);
+    pave(rt, name, 1000.0, options, &square);
 }
 
 // A front of four nodes whose corner values are all 0.8, the limit: it is not closed.
-fn limit_met() {
+fn limit_met(rt: &impl Print) {
     let slanted = [0.0, 0.0, 5000.0, 0.0, 8000.0, 4000.0, 3000.0, 4000.0];
     pave(
+        rt,
         b"corner values that are the limit",
         1000.0,
         with_limit(0.8),
@@ -72,10 +75,10 @@ fn limit_met() {
     );
 }
 
-pub fn jobs() {
-    sizes();
-    sides();
-    other_options(b"other options", default_limit());
-    other_options(b"other options and corner limit", 0.8);
-    limit_met();
+pub fn jobs(rt: &impl Print) {
+    sizes(rt);
+    sides(rt);
+    other_options(rt, b"other options", default_limit());
+    other_options(rt, b"other options and corner limit", 0.8);
+    limit_met(rt);
 }

@@ -5,7 +5,10 @@
 mod jobs;
 mod words;
 
-fn main() {
-    words::answer_words();
-    jobs::jobs();
+use std::io;
+
+fn main(rt: HostRuntime) -> io::Result<()> {
+    words::answer_words(&rt)?;
+    jobs::jobs(&rt);
+    Ok(())
 }

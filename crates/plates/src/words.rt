@@ -1,32 +1,43 @@
 // The program's words. Each is the name of a file with a job's text, and the job is paved; or that name, a tab and the letters of
 // calls, which are made on a state of the job.
-ghost use Rattle.io.specs.Counts.{IsPrefixLen};
+ghost use Rattle.std.specs.Prelude.{◌≡◌, ◌≤◌, length, take};
 
 use calls::run;
 use input::defaults;
 use job_text::{JobRead, read_job};
 use showing::{line, show_text};
+use standard::{Input, answer_buffer, read_input};
+use std::rt::{Env, Files};
+use std::{env, fs, io};
 
-// The bytes of a file that 65,536 bytes hold; none, and a line on standard error, where it cannot be opened.
-fn read_file(path: &[u8], input: &mut [u8; 65536]) -> usize
-    ensures { IsPrefixLen result input.new }
+// The bytes of a file that 65,536 bytes hold; none, and a line on standard error, where it cannot be opened or read.
+fn read_file(rt: &(impl Files + Eprint), path: &str, input: &mut [u8; 65536]) -> usize
+    ensures in_bounds { result ≤ length input.new }
+    ensures bytes { result ≡ length (take result input.new) }
 {
-    let file = os::open_read(path);
-    if file < 0 {
-        os::fail(path);
+    let mut file = match fs::open(rt, path) {
+        Ok(file) => file,
+        Err(error) => {
+            let _ = eprintln!(rt; "{path}: {error}");
+            return 0;
+        }
+    };
+    match read_input(&mut file, input) {
+        Input::Bytes(n) => n,
+        Input::Failed => {
+            let _ = eprintln!(rt; "{path}: it could not be read");
+            0
+        }
     }
-    let n = io::read_full(file, input);
-    libc::close(file);
-    n
 }
 
-fn pave(text: &[u8]) {
-    let mut out = standard::answer_buffer();
+fn pave(rt: &impl Print, text: &[u8]) {
+    let mut out = answer_buffer();
     let n = plate_text::pave_text(text, &mut out);
-    show_text(&out, n);
+    show_text(rt, &out, n);
 }
 
-fn call(text: &[u8], letters: &[u8]) {
+fn call(rt: &impl Print, text: &[u8], letters: &[u8]) {
     let mut coords = [0.0; 4096];
     let mut loops = [0u16; 16];
     let JobRead::Is(size, pairs, count) = read_job(text, &mut coords, &mut loops) else {
@@ -40,6 +51,7 @@ fn call(text: &[u8], letters: &[u8]) {
     }
     let floats = pairs * 2;
     run(
+        rt,
         size,
         defaults(),
         &coords[..floats],
@@ -48,31 +60,24 @@ fn call(text: &[u8], letters: &[u8]) {
     );
 }
 
-fn answer(word: &[u8]) {
-    line(word);
-    let mut input = io::large_buffer();
-    let end = text::field_end(word, 0);
-    if word.len() <= end {
-        let n = read_file(word, &mut input);
-        pave(&input[..n]);
-        return;
+fn answer(rt: &(impl Files + Print + Eprint), word: &str) {
+    line(rt, word.as_bytes());
+    let mut input = [0u8; 65536];
+    match word.split_once('\t') {
+        None => {
+            let n = read_file(rt, word, &mut input);
+            pave(rt, &input[..n]);
+        }
+        Some((name, letters)) => {
+            let n = read_file(rt, name, &mut input);
+            call(rt, &input[..n], letters.as_bytes());
+        }
     }
-    let n = read_file(&word[..end], &mut input);
-    let letters = end + 1;
-    call(&input[..n], &word[letters..]);
 }
 
-fn answer_word(i: usize) {
-    let mut word = io::buffer();
-    let n = os::arg(i, &mut word);
-    answer(&word[..n]);
-}
-
-pub fn answer_words() {
-    let end = os::arg_count();
-    let mut i = 1usize;
-    while i < end {
-        answer_word(i);
-        i += 1;
+pub fn answer_words(rt: &(impl Env + Alloc + Files + Print + Eprint)) -> io::Result<()> {
+    for word in env::args(rt)?.skip(1) {
+        answer(rt, word.as_str());
     }
+    Ok(())
 }

@@ -5,15 +5,15 @@
 
 use standard::Input;
 
-fn main() {
+fn main(rt: HostRuntime) {
     let mut input = standard::list_input();
-    let Input::Bytes(n) = standard::read_input(&mut input) else {
-        standard::say_unread();
+    let Input::Bytes(n) = standard::read_input(&mut rt.stdin(), &mut input) else {
+        standard::say_unread(&rt);
         return;
     };
     let mut output = standard::list_buffer();
     let m = tile_list::recheck(&input[..n], &mut output);
     if m <= output.len() {
-        standard::write_output(&output[..m]);
+        standard::write_output(&rt, &output[..m]);
     }
 }

@@ -1,4 +1,4 @@
-// What is printed beside the text of `pave_text`: a line, a refusal, and a state.
+// What is printed beside the text of `pave_text`: a line, a refusal, and a state. Output that cannot be written is lost.
 #![tactic(auto)]
 
 ghost use Rattle.std.specs.Prelude.{◌≤◌, length};
@@ -10,22 +10,20 @@ ghost use Rattle.showing.specs.Shown.{shown};
 use answer_text::put_state;
 use state::{Counts, wrong_state};
 
-pub fn line(text: &[u8]) {
-    io::write_all(1, text);
-    io::write_all(1, b"\n");
+pub fn line(rt: &impl Print, text: &[u8]) {
+    let _ = rt.write_all(text);
+    let _ = rt.write_all(b"\n");
 }
 
 // The first `n` bytes of a buffer.
-pub fn show_text(out: &[u8], n: usize) {
+pub fn show_text(rt: &impl Print, out: &[u8], n: usize) {
     if n <= out.len() {
-        io::write_all(1, &out[..n]);
+        let _ = rt.write_all(&out[..n]);
     }
 }
 
-pub fn show_refused(number: u32) {
-    io::write_all(1, b"refused\t");
-    io::print_decimal(1, number as u64);
-    io::write_all(1, b"\n");
+pub fn show_refused(rt: &impl Print, number: u32) {
+    let _ = println!(rt; "refused\t{number}");
 }
 
 // The text of a state, and nothing for one that number 25 refuses, whatever the buffers hold.
@@ -47,6 +45,7 @@ fn put_shown(
 }
 
 pub fn show_state(
+    rt: &impl Print,
     points: &[f64; 8192],
     quads: &[u16; 16384],
     front_nodes: &[u16; 2048],
@@ -55,5 +54,5 @@ pub fn show_state(
 ) {
     let mut out = standard::answer_buffer();
     let n = put_shown(&mut out, points, quads, front_nodes, front_lengths, counts);
-    show_text(&out, n);
+    show_text(rt, &out, n);
 }

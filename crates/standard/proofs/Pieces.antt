@@ -1,32 +1,23 @@
 -- What one read behind some bytes leaves, as a loop of reads uses it.
-use mathlib.Core.Path.{◌≡◌, sym}
-use mathlib.Core.List.{List}
-use Prim.Native.Nat.{ℕ, ◌+◌, ◌-◌, ◌≤◌}
-use native.Mathlib.Omega.{arith}
-use lib.ListN.{length, take}
-use lib.Seq.{length-take-le}
-use borrow.Rule.Slice.PartMut.{mid_of, put_mid, same_len_mid, mid_len}
-use Rattle.standard.specs.declared.Input.{Input}
-use Rattle.standard.specs.declared.Input.TheVariants.{Bytes, Failed}
-use Rattle.standard.specs.Input.{Come, Reached}
+use borrow.Rule.Slice.PartMut.{put_mid, post_of}
+use Rattle.std.specs.Prelude.{Option}
+use Rattle.std.proofs.Common.{◌≡◌, ◌∙◌, sym, ap, subst, ℕ, ◌+◌, ◌≤◌, List, ◌++◌, length, take, drop, drop_at, length-take-le}
+use Rattle.std.proofs.lemmas.List.{drop-take, take-append-drop, take-append-le, take-take}
+use Rattle.std.proofs.KnownBytes.{Consumes-trans}
+use Rattle.std.specs.Io.KnownBytes.{Consumes}
 
-pub came : (r : Input) (n done before after : ℕ) → Reached r done before after → r ≡ Bytes n → (after ≡ before) × (done ≤ n) × (n ≤ before)
-came r n done before after h e = let g : Reached (Bytes n) done before after = rw e at h in (g.0, g.1.0, g.1.1)
+-- what was read into the part stands behind the first bytes
+pub behind : (done n k : ℕ) (buf part : List ℕ) → done ≤ length buf → n ≤ length part → drop done (take (done + n) (put_mid done k buf part)) ≡ take n part
+behind done n k buf part fits within =
+    let rest = post_of done k buf in
+    drop-take done n (put_mid done k buf part)
+    ∙ ap (take n) (drop_at (take done buf) (part ++ rest) done (length-take-le done buf fits))
+    ∙ take-append-le n part rest within
 
--- what came is within the buffer, and its first bytes are as many
-module _ (r : Input) (n before : ℕ) (buf : List ℕ) (h : Reached r 0 before (length buf)) (e : r ≡ Bytes n) where
-  pub within : n ≤ length buf
-  within = let g = came r n 0 _ _ h e in omega arith
-
-  pub as_many : n ≡ length (take n buf)
-  as_many = sym (length-take-le n buf within)
-
-module _ (r : Input) (n done : ℕ) (buf part : List ℕ) (fits : done ≤ length buf) (h : Reached r 0 (length (mid_of done (length buf - done) buf)) (length part)) (e : r ≡ Bytes n) where
-  abbrev pub space : length (mid_of done (length buf - done) buf) ≡ length buf - done
-  space = mid_len done (length buf) buf (omega arith)
-
-  pub below : done + n ≤ length buf
-  below = let g = came r n 0 _ _ h e in let s = space in omega arith
-
-  pub grown : Reached (Bytes (done + n)) done (length buf) (length (put_mid done (length buf - done) buf part))
-  grown = (same_len_mid done (length buf - done) buf part h.0, (omega arith, below))
+-- and goes on what came before it
+pub more : (a b c : Option (List ℕ)) (old new : List ℕ) (done n : ℕ) → done ≤ n → take done new ≡ take done old
+    → Consumes a b (take done old) → Consumes b c (drop done (take n new)) → Consumes a c (take n new)
+more a b c old new done n le front first second =
+    let joined : take done old ++ drop done (take n new) ≡ take n new =
+    ap (λ (z : List ℕ). z ++ drop done (take n new)) (sym front ∙ sym (take-take done n new le)) ∙ take-append-drop done (take n new) in
+    subst (Consumes a c) joined (Consumes-trans a b c _ _ first second)

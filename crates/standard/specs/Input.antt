@@ -1,4 +1,4 @@
--- What `read_input` answers. What was read no contract can say. Definitions only.
+-- What `read_input` answers. Definitions only.
 use Rattle.std.specs.Prelude.{ℕ, ◌≤◌, ◌≡◌}
 use Rattle.standard.specs.declared.Input.{Input}
 use Rattle.standard.specs.declared.Input.TheVariants.{Bytes, Failed}
@@ -10,3 +10,8 @@ Come Failed done length = Unit
 
 abbrev pub Reached : Input → ℕ → ℕ → ℕ → Type 0
 Reached r done before after = (after ≡ before) × Come r done before
+
+-- `P` holds of the count, where no read failed
+abbrev pub IfBytes : Input → (ℕ → Type 0) → Type 0
+IfBytes (Bytes n) P = P n
+IfBytes Failed P = Unit

@@ -1,15 +1,13 @@
 -- The tests of a list one after the other: the first that fails decides.
-use mathlib.Core.Path.{◌≡◌, refl, sym, ◌∙◌, ap}
-use mathlib.Core.Bool.{Bool, true, false, not, ◌&&◌, ◌||◌}
-use Prim.Native.Nat.{ℕ, ◌*◌, ◌≤◌, ◌<◌}
+use mathlib.Core.Path.{◌≡◌}
+use mathlib.Core.Bool.{true, false}
+use Prim.Native.Nat.{◌*◌, ◌≤◌, ◌<◌}
 use native.Mathlib.Omega.{arith}
-use borrow.Author.Tests.{eq-eqb, ne_eqb, le-leb, lt-leb, ltb-false}
-use lib.Dec.{eqb, leb}
+use borrow.Author.Tests.{eq-eqb, ne_eqb, le-leb, lt-leb}
 use lib.ListN.{length}
 use Rattle.state.specs.State.{Held, lengths, quads_of}
 use Rattle.state.specs.Given.{wrong_state}
 use Rattle.state.specs.Call.{lent}
-use Rattle.state.specs.Sound.{Sound}
 use Rattle.state.proofs.Sounding.{sound}
 use Rattle.tile_text.specs.TileList.{every_quad, four_different, pass_limit}
 use Rattle.tile_list.specs.Steps.{allowed_held}

@@ -1,16 +1,13 @@
 -- The answer's text, case by case, and the buffer with zeros behind it.
-use mathlib.Core.Path.{◌≡◌, refl, sym, ◌∙◌, ap}
-use mathlib.Core.Bool.{Bool, true, false, cond}
+use mathlib.Core.Path.{◌≡◌, sym, ◌∙◌, ap}
 use mathlib.Core.List.{List, [], ◌∷◌, ◌++◌, append-nil}
 use mathlib.Core.Option.{none, some, Option-elim}
 use Prim.Native.Nat.{ℕ, zero, suc, ◌+◌, ◌-◌, ◌≤◌, ◌<◌, zero-le, suc-le-suc}
 use native.Mathlib.Nat.{zero-add}
 use native.Mathlib.Omega.{arith}
 use borrow.Author.Tests.{eq-eqb, ne_eqb, lt-ltb, le-ltb}
-use lib.Dec.{eqb, ltb}
-use lib.ListN.{length, take, drop, replicate, length-append, length-replicate, drop_of_length-le}
+use lib.ListN.{length, take, replicate, length-replicate, drop_of_length-le}
 use lib.Seq.{sets, sets-eq}
-use Rattle.state.specs.State.{padded}
 use Rattle.state.proofs.Stores.{front_part}
 use Rattle.text.specs.Putting.{Put}
 use Rattle.answer_text.specs.AnswerText.{refused_text}

@@ -1,27 +1,25 @@
 -- The buffers of a list: those that a list was stored in hold it written, and what allowed buffers hold is a list that is allowed.
 use mathlib.Core.Path.{◌≡◌, refl, sym, ◌∙◌, ap}
-use mathlib.Core.Bool.{Bool, true, false, not, ◌&&◌, ◌||◌}
-use mathlib.Core.List.{List, [], ◌∷◌, ◌++◌, map}
-use Prim.Native.Nat.{ℕ, zero, suc, ◌+◌, ◌-◌, ◌*◌, ◌/◌, ◌%◌, ◌≤◌, ◌<◌}
+use mathlib.Core.Bool.{true, false, not}
+use mathlib.Core.List.{List, ◌++◌, map}
+use Prim.Native.Nat.{ℕ, zero, suc, ◌-◌, ◌*◌, ◌≤◌}
 use native.Mathlib.Nat.{zero-add}
 use native.Mathlib.Omega.{arith}
 use borrow.Author.Tests.{eq-eqb}
 use lib.Dec.{eqb, leb}
 use lib.Ieee.{Float}
-use lib.ListN.{length, take, drop, replicate, length-append, length-replicate, length-map}
+use lib.ListN.{length, take, drop, replicate, length-replicate, length-map}
 use lib.Seq.{sets, sets-eq, take_at}
 use Rattle.float.specs.Helpers.{decimal}
-use Rattle.geometry.specs.Domain.{sum_of}
 use Rattle.state.specs.declared.Counts.{Counts}
-use Rattle.state.specs.Limits.{point_limit, quad_limit, front_limit, front_node_limit, points_length, quads_length}
-use Rattle.state.specs.State.{State, Held, quad_nodes, joined, padded, nodes, lengths, counts_of, written, reading, quads_of, cut}
-use Rattle.state.specs.Given.{some_below, wrong_counts, wrong_values, wrong_state}
+use Rattle.state.specs.Limits.{front_limit, front_node_limit, points_length, quads_length}
+use Rattle.state.specs.State.{State, Held, quad_nodes, joined, padded, nodes, lengths, counts_of, written, reading, quads_of}
+use Rattle.state.specs.Given.{wrong_counts, wrong_values, wrong_state}
 use Rattle.state.specs.Call.{held, lent}
 use Rattle.state.specs.Sound.{Sound, sizes_of}
-use Rattle.state.proofs.Basics.{or_false}
 use Rattle.state.proofs.Written.{reading-written, quads_back}
 use Rattle.state.proofs.Growing.{length-numbers}
-use Rattle.state.proofs.Reading.{Counted, sound_counted, nodes-read, even_read, quads_read, fronts_read, sizes_long}
+use Rattle.state.proofs.Reading.{Counted, sound_counted, even_read, fronts_read, sizes_long}
 use Rattle.state.proofs.Sounding.{sound}
 use Rattle.state.proofs.Zeros.{same_held, lengths-held, counts_held}
 use Rattle.tile_text.specs.TileList.{TileList, with_fronts, allowed, every_quad, four_different, pass_limit}

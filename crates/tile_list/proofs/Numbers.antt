@@ -1,25 +1,24 @@
 -- What the two tests of an allowed list ask of its buffers, and the number that they give.
-use mathlib.Core.Path.{◌≡◌, refl, sym, ◌∙◌, ap}
-use mathlib.Core.Bool.{Bool, true, false, not, cond}
+use mathlib.Core.Path.{◌≡◌, refl, ◌∙◌, ap}
+use mathlib.Core.Bool.{true, false}
 use mathlib.Core.List.{List, [], ◌∷◌, ◌++◌, map, append_assoc}
-use Prim.Native.Nat.{ℕ, zero, suc, ◌+◌, ◌-◌, ◌*◌, ◌≤◌, ◌<◌}
+use Prim.Native.Nat.{ℕ, zero, suc, ◌*◌, ◌≤◌, ◌<◌}
 use native.Mathlib.Omega.{arith}
 use lib.Ieee.{Float}
 use lib.ListN.{length, get_or, take, drop, length-drop}
 use lib.Seq.{length-take-le, get_or-take}
 use Rattle.geometry.specs.Domain.{sum_of}
 use Rattle.state.specs.declared.Counts.{Counts}
-use Rattle.state.specs.Limits.{point_limit, quad_limit, front_limit, front_node_limit, points_length, quads_length}
-use Rattle.state.specs.State.{Held, Quad, quad_nodes, joined, nodes, lengths, reading, cut, quads_of}
+use Rattle.state.specs.State.{Held, Quad, quad_nodes, lengths, reading, cut, quads_of}
 use Rattle.state.specs.Outcome.{first_true}
 use Rattle.state.specs.Call.{held, lent}
-use Rattle.state.specs.Sound.{Sound, sizes_of}
-use Rattle.state.proofs.Reading.{Counted, sound_counted, nodes-read, quad-nodes-read, length-quads_of}
+use Rattle.state.specs.Sound.{Sound}
+use Rattle.state.proofs.Reading.{sound_counted, nodes-read, quad-nodes-read, length-quads_of}
 use Rattle.state.proofs.Repeating.{all_below}
 use Rattle.input.specs.Limit.{default_limit}
 use Rattle.rules.specs.Checks.{quad_passes}
 use Rattle.pair_counts.specs.Twice.{all_twice}
-use Rattle.tile_text.specs.TileList.{TileList, every_quad, allowed}
+use Rattle.tile_text.specs.TileList.{TileList, every_quad}
 use Rattle.tile_text.proofs.Allowing.{allowed_is}
 use Rattle.tile_list.specs.Recheck.{rings, wrong_pair, wrong_corner, list_number}
 use Rattle.tile_list.specs.Steps.{with_loops, allowed_held, list_in}

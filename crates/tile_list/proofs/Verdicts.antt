@@ -1,36 +1,35 @@
 -- Which texts are readable, over the buffers that a list was read into.
 use mathlib.Core.Path.{◌≡◌, refl, sym, ◌∙◌, ap}
-use mathlib.Core.Bool.{Bool, true, false, not, cond, ◌&&◌, true≢false}
+use mathlib.Core.Bool.{Bool, true, false, cond, ◌&&◌, true≢false}
 use mathlib.Core.List.{List, [], ◌∷◌, ◌++◌, map, append-nil}
 use mathlib.Core.Option.{Option, none, some, none-ne-some, some-injective}
-use Prim.Native.Nat.{ℕ, zero, suc, ◌+◌, ◌-◌, ◌*◌, ◌≤◌, ◌<◌}
+use Prim.Native.Nat.{ℕ, zero, suc, ◌*◌, ◌≤◌, ◌<◌}
 use native.Mathlib.Omega.{arith}
-use borrow.Author.Tests.{eq-eqb, eqb-true, eqb-false}
+use borrow.Author.Tests.{eq-eqb, eqb-true}
 use lib.Dec.{T, eqb}
 use lib.Ieee.{Float, nan, binary64, fits, of_bits}
 use lib.Ieee.Bits.{of_bits-fits}
-use lib.ListN.{length, get_or, take, drop, length-append, length-map, replicate, length-replicate}
+use lib.ListN.{length, get_or, take, length-map, replicate, length-replicate}
 use lib.Seq.{sets, length-take-le, get_or-take}
 use Rattle.float.specs.Helpers.{decimal}
 use Rattle.float.proofs.Literals.{zero_is}
 use Rattle.state.specs.declared.Counts.{Counts}
 use Rattle.state.specs.Limits.{front_limit, front_node_limit, points_length, quads_length, quad_limit}
-use Rattle.state.specs.State.{State, Held, quad_nodes, joined, lengths, counts_of, written, reading, quads_of, cut}
+use Rattle.state.specs.State.{Held, quad_nodes, joined, lengths, written, reading, quads_of, cut}
 use Rattle.state.specs.Call.{held, lent}
 use Rattle.state.proofs.Stores.{front_part}
 use Rattle.text.specs.Decimal.{same_bytes}
 use Rattle.text.specs.Fields.{behind}
-use Rattle.text.specs.Putting.{Put}
 use Rattle.answer_text.specs.AnswerText.{state_text}
 use Rattle.tile_text.specs.TileList.{TileList, with_fronts, loops_text, list_text, allowed}
 use Rattle.tile_text.specs.Reading.{fields_of, worded, coordinate, said, read_list}
 use Rattle.tile_text.specs.declared.list.ListRead.{ListRead}
 use Rattle.tile_text.specs.Readable.{F64s}
-use Rattle.tile_text.specs.Fields.{Lists, lists, stored_list, ListReadIs}
-use Rattle.tile_text.proofs.Allowing.{Fair, Allowed, allowed_is, plain}
+use Rattle.tile_text.specs.Fields.{Lists, lists, ListReadIs}
+use Rattle.tile_text.proofs.Allowing.{allowed_is, plain}
 use Rattle.tile_text.proofs.Readable.{read_only, read_back}
 use Rattle.tile_list.specs.Steps.{with_loops, allowed_held, list_in, no_lists, list_read, ReadableIs}
-use Rattle.tile_list.proofs.Holding.{stored-padded, allowed-held, held-rings, list_held, allowed_in}
+use Rattle.tile_list.proofs.Holding.{allowed-held, held-rings, list_held, allowed_in}
 
 -- ---- what is read from a text is made of f64s
 

@@ -1,6 +1,6 @@
 -- A tile list tested, from its text to the answer's. Definitions only.
 use Rattle.std.specs.Prelude.{ℕ, Bool, not, cond, List, [], ◌∷◌, ◌++◌, map, eqb, ltb}
-use Rattle.std.proofs.Math.Option.{Option·elim}
+use Rattle.std.proofs.Math.Option.{Option-elim}
 use Rattle.std.proofs.Math.ListN as lists
 use Rattle.state.specs.State.{quad_nodes, padded}
 use Rattle.state.specs.Outcome.{first_true, test}
@@ -33,7 +33,7 @@ verdict_text t n = cond (eqb n 0) t (refused_text n)
 
 -- 30 for a text that is no list's, before every other number
 unfoldable pub recheck_text : List ℕ → List ℕ
-recheck_text t = Option·elim (read_list t) (refused_text 30) (λ (l : TileList). verdict_text t (list_number l))
+recheck_text t = Option-elim (read_list t) (refused_text 30) (λ (l : TileList). verdict_text t (list_number l))
 
 -- ---- the call
 

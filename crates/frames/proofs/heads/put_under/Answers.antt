@@ -1,0 +1,12 @@
+-- `frames::heads::put_under` meets its contract.
+use Rattle.shapes.proofs.Literals.{half_is}
+use Rattle.frames.proofs.Measures.{under_is}
+use Rattle.frames.proofs.heads.put_under.Goals as goal
+
+pub put_up-requires : goal.put_up-requires
+put_up-requires c =
+    rw (under_is c.args.b c.args.m _ half_is) c.requires
+
+pub returns : goal.returns
+returns c =
+    rw (← under_is c.args.b c.args.m _ half_is) c.put_up.ensures

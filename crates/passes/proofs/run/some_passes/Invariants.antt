@@ -1,0 +1,17 @@
+-- `passes::run::some_passes` meets its contract. The invariant: what is left of the passes, from the buffers as they are, gives what all give; and the buffers are sound and clean. The measure is the passes left.
+use mathlib.Core.Path.{refl}
+use Prim.Native.Nat.{◌-◌, ◌≤◌}
+use native.Mathlib.Omega.{arith}
+use Rattle.state.specs.State.{Held}
+use Rattle.state.specs.Call.{held}
+use Rattle.input.specs.Job.{Job, job}
+use Rattle.passes.proofs.Runs.{Ran, ran_none, ran_refused, ran_last, ran_more, ran_all}
+use borrow.Author.Rules.{rules}
+use Rattle.passes.proofs.run.some_passes.Given as goal
+
+abbrev pub invariant-loop : goal.invariant-loop
+invariant-loop l =
+    Ran (job l.coords l.loop_lengths l.h l.options) l.most (held l.initial.points l.initial.quads l.initial.front_nodes l.initial.front_lengths l.initial.c) l.counter (held l.points l.quads l.front_nodes l.front_lengths l.c) × (l.counter ≤ l.most)
+
+abbrev pub decreases-loop : goal.decreases-loop
+decreases-loop l = l.most - l.counter

@@ -1,0 +1,97 @@
+use mathlib.Core.Path.{◌≡◌, sym, ◌∙◌, ap}
+use mathlib.Core.Bool.{true, ◌&&◌}
+use Prim.Native.Nat.{ℕ, ◌≤◌, ◌<◌, ◌-◌}
+use native.Mathlib.Omega.{arith}
+use borrow.Author.Rules.{rules}
+use borrow.Author.Tests.{not-true, not-false}
+use lib.ListN.{length, get_or}
+use Rattle.rules.specs.Checks.{every}
+use Rattle.geometry.specs.Rings.{point_at, next}
+use Rattle.geometry.specs.Measures.{side_length}
+use Rattle.geometry.proofs.Flip.{length_flip}
+use Rattle.state.proofs.Basics.{and_false}
+use Rattle.rules.proofs.Every.{every_none, every_more, every_stops, every_end, too_near, far_enough}
+use Rattle.pairs.proofs.Sides.{next_inner}
+use Rattle.row_checks.proofs.Sides.{long_enough, corners_good, side_of, corners_of}
+use Rattle.row_checks.proofs.quads.all_quads_stand.Goals as goal
+
+-- TODO requires entry.pre
+pub node_point-a-requires : goal.node_point-a-requires
+node_point-a-requires c =
+    let p = c.requires in let k : 0 < length c.args.old.now = omega arith in (k, p.by_index _ k)
+
+pub point_at-d-requires : goal.point_at-d-requires
+point_at-d-requires c =
+    omega (arith, c.requires.n_nonzero)
+
+pub loop-i-init : goal.loop-i-init
+loop-i-init c = (omega arith, every_none _, every_none _, c.side_length-rung.ensures, λ l. (c.node_point-a.ensures, c.point_at-d.ensures))
+
+-- TODO requires entry.pre
+pub node_point-b-requires : goal.node_point-b-requires
+node_point-b-requires c =
+    let p = c.requires in let k : c.next_of-after.result < length c.args.old.now = omega (arith, p.n_nonzero, c.next_of-after.ensures.upper_bound) in (k, p.by_index _ k)
+
+pub point_at-c-requires : goal.point_at-c-requires
+point_at-c-requires c =
+    omega (arith, c.requires.n_nonzero, c.next_of-after.ensures.upper_bound)
+
+pub returns-then-new_side-least : goal.returns-then-new_side-least
+returns-then-new_side-least c =
+    let a = c.args in
+    let l = c.loop-i-test.true in
+    let w = c.loop-i.invariant.4 l in
+    let s = side_of a.row.now a.n c.loop-i.i c.side_length-new_side.ensures w.1 c.point_at-c.ensures c.next_of-after.ensures.value in
+    ap (λ b. b && every (corners_good a.limit a.points.now a.old.now a.row.now a.n) a.n)
+    (every_stops (long_enough a.least a.row.now a.n) c.loop-i.i a.n l (too_near a.least s c.if-new_side-least.true))
+
+pub corners_pass_with-requires : goal.corners_pass_with-requires
+corners_pass_with-requires c =
+ (
+      c.side_length-old_side.ensures,
+      c.side_length-next_rung.ensures,
+      c.side_length-new_side.ensures ∙ length_flip _ _,
+      c.loop-i.invariant.3 ∙ length_flip _ _,
+    )
+
+pub returns-then-not-corners_pass_with : goal.returns-then-not-corners_pass_with
+returns-then-not-corners_pass_with c =
+    let a = c.args in
+    let l = c.loop-i-test.true in
+    let w = c.loop-i.invariant.4 l in
+    let q = corners_of a.limit a.points.now a.row.now a.old.now a.n c.loop-i.i c.corners_pass_with.ensures w.0 c.node_point-b.ensures c.point_at-c.ensures w.1 c.next_of-after.ensures.value (c.if-not-corners_pass_with.true) in
+    let e = every_stops (corners_good a.limit a.points.now a.old.now a.row.now a.n) c.loop-i.i a.n l q in
+    sym (and_false (every (long_enough a.least a.row.now a.n) a.n)) ∙ ap (λ b. every (long_enough a.least a.row.now a.n) a.n && b) e
+
+pub overflow_step-i : goal.overflow_step-i
+overflow_step-i c =
+    omega (arith, c.loop-i-test.true, c.well_formed)
+
+pub loop-i-smaller : goal.loop-i-smaller
+loop-i-smaller c =
+    omega (arith, c.loop-i-test.true)
+
+pub loop-i-preserved : goal.loop-i-preserved
+loop-i-preserved c =
+    let a = c.args in
+    let l = c.loop-i-test.true in
+    let w = c.loop-i.invariant.4 l in
+    let next-is = c.next_of-after.ensures.value in
+    let b-is = c.node_point-b.ensures in
+    let c-is = c.point_at-c.ensures in
+    let s = side_of a.row.now a.n c.loop-i.i c.side_length-new_side.ensures w.1 c-is next-is in
+    let q = corners_of a.limit a.points.now a.row.now a.old.now a.n c.loop-i.i c.corners_pass_with.ensures w.0 b-is c-is w.1 next-is (c.if-not-corners_pass_with.false) in (
+      omega (arith, l),
+      every_more (long_enough a.least a.row.now a.n) c.loop-i.i c.loop-i.invariant.1 (far_enough a.least s c.if-new_side-least.false),
+      every_more (corners_good a.limit a.points.now a.old.now a.row.now a.n) c.loop-i.i c.loop-i.invariant.2 q,
+      c.side_length-next_rung.ensures,
+      λ m. let e = next_inner a.n c.loop-i.i l next-is m in
+          (b-is ∙ ap (λ (k : ℕ). point_at a.points.now (get_or a.old.now k 0)) e, c-is ∙ ap (point_at a.row.now) e),
+    )
+
+pub returns : goal.returns
+returns c =
+    let a = c.args in
+    let e : c.loop-i.i ≡ a.n = omega arith in
+    every_end (corners_good a.limit a.points.now a.old.now a.row.now a.n) c.loop-i.i a.n c.loop-i.invariant.2 e
+    ∙ ap (λ b. b && every (corners_good a.limit a.points.now a.old.now a.row.now a.n) a.n) (every_end (long_enough a.least a.row.now a.n) c.loop-i.i a.n c.loop-i.invariant.1 e)

@@ -1,0 +1,25 @@
+-- `row_checks::quads::all_quads_stand` meets its contract. The invariant: the sides passed are long enough and the quads passed have good corners, and the turn has its rung and the rung's length. The measure is the quads left.
+use mathlib.Core.Path.{◌≡◌, sym, ◌∙◌, ap}
+use mathlib.Core.Bool.{true, ◌&&◌}
+use Prim.Native.Nat.{ℕ, ◌≤◌, ◌<◌, ◌-◌}
+use native.Mathlib.Omega.{arith}
+use borrow.Author.Rules.{rules}
+use borrow.Author.Tests.{not-true, not-false}
+use lib.ListN.{length, get_or}
+use Rattle.rules.specs.Checks.{every}
+use Rattle.geometry.specs.Rings.{point_at, next}
+use Rattle.geometry.specs.Measures.{side_length}
+use Rattle.geometry.proofs.Flip.{length_flip}
+use Rattle.state.proofs.Basics.{and_false}
+use Rattle.rules.proofs.Every.{every_none, every_more, every_stops, every_end, too_near, far_enough}
+use Rattle.pairs.proofs.Sides.{next_inner}
+use Rattle.row_checks.proofs.Sides.{long_enough, corners_good, side_of, corners_of}
+use Rattle.row_checks.proofs.quads.all_quads_stand.Given as goal
+
+abbrev pub invariant-loop-i : goal.invariant-loop-i
+invariant-loop-i l =
+    (l.i ≤ l.n) × (every (long_enough l.least l.row l.n) l.i ≡ true) × (every (corners_good l.limit l.points l.old l.row l.n) l.i ≡ true)
+    × (l.rung ≡ side_length l.a l.d) × (l.i < l.n → (l.a ≡ point_at l.points (get_or l.old l.i 0)) × (l.d ≡ point_at l.row l.i))
+
+abbrev pub decreases-loop-i : goal.decreases-loop-i
+decreases-loop-i l = l.n - l.i

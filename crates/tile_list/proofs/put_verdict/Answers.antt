@@ -1,0 +1,53 @@
+-- `tile_list::put_verdict` meets its contract.
+use mathlib.Core.Path.{◌∙◌, ap}
+use native.Mathlib.Omega.{arith}
+use lib.ListN.{length}
+use Rattle.state.specs.Call.{held}
+use Rattle.answer_text.proofs.Pieces.{refused_fits}
+use Rattle.tile_text.specs.TileList.{TileList}
+use Rattle.tile_list.specs.Steps.{with_loops, list_in}
+use Rattle.tile_list.proofs.Holding.{state_sound}
+use Rattle.tile_list.proofs.Verdicts.{allowed-read, fours_read}
+use Rattle.tile_list.proofs.Answers.{unreadable, numbered, accepted, stands}
+use Rattle.tile_list.proofs.put_verdict.Goals as goal
+
+pub returns-then-not-is_readable : goal.returns-then-not-is_readable
+returns-then-not-is_readable c =
+    let none_read = c.is_readable.ensures.no (c.if-not-is_readable.true) in
+    let room = c.requires.list_room_in_bounds.0 in
+    let long = c.is_readable.auto.out in
+    let fits = refused_fits 30 in
+    stands (unreadable c.args.input.now none_read) c.put_refused.ensures.put (omega arith)
+
+pub list_number-number-requires : goal.list_number-number-requires
+list_number-number-requires c =
+    let list : TileList = (list_in (held c.args.points.now c.args.quads.now c.args.front_nodes.now c.args.front_lengths.now c.args.counts)
+    (held c.args.points.now c.args.quads.now c.args.loop_nodes.now c.args.loop_lengths.now (with_loops c.args.counts c.args.loops))) in
+    let yes = (c.is_readable.ensures.yes (c.if-not-is_readable.false)).0 in
+    let a = allowed-read c.args.input.now c.args.points.now c.args.quads.now c.args.loop_nodes.now c.args.loop_lengths.now c.args.front_nodes.now c.args.front_lengths.now c.args.quad_lengths.now c.args.counts c.args.loops c.requires.list_read_is list yes in
+    let few = (state_sound c.args.points.now c.args.quads.now c.args.loop_nodes.now c.args.loop_lengths.now c.args.front_nodes.now c.args.front_lengths.now c.args.counts c.args.loops c.requires.counts_value c.requires.loops_value a).quads in
+    let long = c.requires.list_room_in_bounds.1 in record {
+      counts_value = c.requires.counts_value;
+      loops_value = c.requires.loops_value;
+      loops_value_2 = a;
+      quad_lengths_value = fours_read c.args.input.now c.args.points.now c.args.quads.now c.args.loop_nodes.now c.args.loop_lengths.now c.args.front_nodes.now c.args.front_lengths.now c.args.quad_lengths.now c.args.counts c.args.loops c.requires.list_read_is yes;
+      quads_in_bounds = omega arith;
+    }
+
+pub returns-then-number-ne0 : goal.returns-then-number-ne0
+returns-then-number-ne0 c =
+    let list : TileList = (list_in (held c.args.points.now c.args.quads.now c.args.front_nodes.now c.args.front_lengths.now c.args.counts)
+    (held c.args.points.now c.args.quads.now c.args.loop_nodes.now c.args.loop_lengths.now (with_loops c.args.counts c.args.loops))) in
+    let yes = (c.is_readable.ensures.yes (c.if-not-is_readable.false)).0 in
+    let room = c.requires.list_room_in_bounds.0 in
+    let long = c.is_readable.auto.out in
+    let fits = refused_fits c.list_number-number.result in
+    stands (numbered c.args.input.now list yes c.list_number-number.result c.list_number-number.ensures c.if-number-ne0.true) c.put_refused-then-number-ne0.ensures.put (omega arith)
+
+pub returns : goal.returns
+returns c =
+    let list : TileList = (list_in (held c.args.points.now c.args.quads.now c.args.front_nodes.now c.args.front_lengths.now c.args.counts)
+    (held c.args.points.now c.args.quads.now c.args.loop_nodes.now c.args.loop_lengths.now (with_loops c.args.counts c.args.loops))) in
+    let yes = c.is_readable.ensures.yes (c.if-not-is_readable.false) in
+    let same = accepted c.args.input.now list yes.0 c.list_number-number.result c.list_number-number.ensures c.if-number-ne0.false in
+    record { bytes = yes.1 ∙ same; place = ap length same }
