@@ -2,7 +2,6 @@
 use borrow.Author.Rules.{rules}
 use Rattle.row.proofs.call.next_row.Goals as goal
 
--- TODO requires entry.pre
 pub row_on-requires : goal.row_on-requires
 row_on-requires c =
     let p = c.requires in record {

@@ -16,7 +16,6 @@ bounds-front_lengths-li c =
     let given : Held = held c.args.points.now c.args.quads.now c.args.front_nodes.now c.args.front_lengths.now c.args.counts in
     let s : Sound given = c.requires.sound in omega arith
 
--- TODO requires entry.pre
 pub row_in-requires : goal.row_in-requires
 row_in-requires c =
     let p = c.requires in record {
@@ -26,7 +25,6 @@ row_in-requires c =
       li_in_bounds = omega arith;
     }
 
--- TODO requires entry.pre
 pub row_in-requires-2 : goal.row_in-requires-2
 row_in-requires-2 c =
     let given : Held = held c.args.points.now c.args.quads.now c.args.front_nodes.now c.args.front_lengths.now c.args.counts in

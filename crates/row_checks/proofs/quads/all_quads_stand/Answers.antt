@@ -15,7 +15,6 @@ use Rattle.pairs.proofs.Sides.{next_inner}
 use Rattle.row_checks.proofs.Sides.{long_enough, corners_good, side_of, corners_of}
 use Rattle.row_checks.proofs.quads.all_quads_stand.Goals as goal
 
--- TODO requires entry.pre
 pub node_point-a-requires : goal.node_point-a-requires
 node_point-a-requires c =
     let p = c.requires in let k : 0 < length c.args.old.now = omega arith in (k, p.by_index _ k)
@@ -27,7 +26,6 @@ point_at-d-requires c =
 pub loop-i-init : goal.loop-i-init
 loop-i-init c = (omega arith, every_none _, every_none _, c.side_length-rung.ensures, λ l. (c.node_point-a.ensures, c.point_at-d.ensures))
 
--- TODO requires entry.pre
 pub node_point-b-requires : goal.node_point-b-requires
 node_point-b-requires c =
     let p = c.requires in let k : c.next_of-after.result < length c.args.old.now = omega (arith, p.n_nonzero, c.next_of-after.ensures.upper_bound) in (k, p.by_index _ k)

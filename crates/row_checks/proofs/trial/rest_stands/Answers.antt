@@ -33,12 +33,10 @@ returns-then-not-all_off_boundary c =
     let a = c.args in
     one_at_boundary job_at a.points.now fronts_at a.li a.row.now a.front.len sized c.requires.loop_lengths_in_bounds.2 below _ c.all_inside.ensures (c.if-not-all_inside.false) _ (rw twentieth_is at c.all_off_boundary.ensures) (c.if-not-all_off_boundary.true)
 
--- TODO requires entry.pre
 pub nodes_of-old-requires : goal.nodes_of-old-requires
 nodes_of-old-requires c =
     let p = c.requires in let w = total_within c.args.lengths.now c.args.li p.li_in_bounds.0 in omega arith
 
--- TODO requires entry.pre
 pub all_quads_stand-requires : goal.all_quads_stand-requires
 all_quads_stand-requires c =
     let fronts_at : List (List ℕ) = cut c.args.lengths.now c.args.front_nodes.now in
