@@ -11,9 +11,6 @@ use Rattle.answer_text.proofs.lines.put_nodes.Goals as goal
 pub loop-i-init : goal.loop-i-init
 loop-i-init c = (omega arith, begin _ _ _)
 
-pub offset_bounds-nodes-i : goal.offset_bounds-nodes-i
-offset_bounds-nodes-i c = omega arith
-
 pub bounds-nodes-i : goal.bounds-nodes-i
 bounds-nodes-i c = omega arith
 

@@ -1,8 +1,7 @@
 use Prim.Native.Nat.{◌+◌, ◌*◌}
 use native.Mathlib.Omega.{arith}
-use borrow.Author.Rules.{scaled_Fits}
 use lib.Ieee.{nan}
-use lib.ListN.{length, get_or, drop}
+use lib.ListN.{get_or, drop}
 use Rattle.text.proofs.Midst.{begin, more, room, ended, same_rest}
 use Rattle.answer_text.specs.AnswerText.{point_text, points_text}
 use Rattle.answer_text.proofs.LineLaws.{points_next, points_end}
@@ -14,9 +13,6 @@ loop-i-init c = (omega arith, begin _ _ _)
 pub overflow_mul-i : goal.overflow_mul-i
 overflow_mul-i c = omega arith
 
-pub offset_bounds-points-i : goal.offset_bounds-points-i
-offset_bounds-points-i c = scaled_Fits _ (length c.args.points.now) 8 (omega arith) c.well_formed.1.1.0.1
-
 pub bounds-points-i : goal.bounds-points-i
 bounds-points-i c = omega arith
 
@@ -25,9 +21,6 @@ overflow_mul-i-in-loop-i c = omega arith
 
 pub overflow_add-i : goal.overflow_add-i
 overflow_add-i c = omega arith
-
-pub offset_bounds-points-i-in-loop-i : goal.offset_bounds-points-i-in-loop-i
-offset_bounds-points-i-in-loop-i c = scaled_Fits _ (length c.args.points.now) 8 (omega arith) c.well_formed.1.1.0.1
 
 pub bounds-points-i-in-loop-i : goal.bounds-points-i-in-loop-i
 bounds-points-i-in-loop-i c = omega arith

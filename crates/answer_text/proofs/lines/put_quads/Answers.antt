@@ -1,8 +1,7 @@
 use mathlib.Core.List.{[], ◌∷◌, map}
 use Prim.Native.Nat.{◌+◌, ◌-◌, ◌*◌}
 use native.Mathlib.Omega.{arith}
-use borrow.Author.Rules.{scaled_Fits}
-use lib.ListN.{length, take, drop}
+use lib.ListN.{take, drop}
 use Rattle.state.specs.State.{quad_nodes, quads_of}
 use Rattle.text.proofs.Midst.{begin, more, room, ended, same_rest}
 use Rattle.answer_text.specs.AnswerText.{line_text, lines_text}
@@ -18,9 +17,6 @@ overflow_mul-start c = omega arith
 
 pub overflow_add-end : goal.overflow_add-end
 overflow_add-end c = omega arith
-
-pub offset_bounds-quads-start : goal.offset_bounds-quads-start
-offset_bounds-quads-start c = scaled_Fits _ (length c.args.quads.now) 2 (omega arith) c.well_formed.1.1.0.1
 
 pub slice_bounds-put_line-count : goal.slice_bounds-put_line-count
 slice_bounds-put_line-count c = omega arith

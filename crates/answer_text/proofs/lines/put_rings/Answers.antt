@@ -1,8 +1,7 @@
 use mathlib.Core.List.{[], ◌∷◌}
 use Prim.Native.Nat.{◌+◌, ◌-◌}
 use native.Mathlib.Omega.{arith}
-use borrow.Author.Rules.{scaled_Fits}
-use lib.ListN.{length, take, drop}
+use lib.ListN.{take, drop}
 use Rattle.state.specs.State.{cut}
 use Rattle.text.proofs.Midst.{begin, more, room, ended, same_rest}
 use Rattle.answer_text.specs.AnswerText.{line_text, lines_text}
@@ -12,9 +11,6 @@ use Rattle.answer_text.proofs.lines.put_rings.Goals as goal
 pub loop-i-init : goal.loop-i-init
 loop-i-init c = (omega arith, omega arith, begin _ _ _)
 
-pub offset_bounds-lengths-i : goal.offset_bounds-lengths-i
-offset_bounds-lengths-i c = scaled_Fits _ (length c.args.lengths.now) 2 (omega arith) c.well_formed.1.1.1.1.0.1
-
 pub bounds-lengths-i : goal.bounds-lengths-i
 bounds-lengths-i c = omega arith
 
@@ -22,11 +18,6 @@ pub overflow_add-end : goal.overflow_add-end
 overflow_add-end c =
     let left = nodes-next c.args.lengths.now c.loop-i.i c.wide.result (omega arith) c.wide.ensures in
     omega arith
-
-pub offset_bounds-nodes-start : goal.offset_bounds-nodes-start
-offset_bounds-nodes-start c =
-    let left = nodes-next c.args.lengths.now c.loop-i.i c.wide.result (omega arith) c.wide.ensures in
-    omega (arith, c.well_formed.1.1.1.0.1)
 
 pub slice_bounds-put_line-count : goal.slice_bounds-put_line-count
 slice_bounds-put_line-count c = omega arith

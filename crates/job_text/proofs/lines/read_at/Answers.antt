@@ -38,7 +38,7 @@ overflow_add-tab c =
     let x-read : let a = c.args in Coordinate a.text.now (a.at + 3) c.in-Is.x c.in-Is.tab = (coordinate _ _ _ c.read_whole.ensures (word).within _ _ c.in-Is.is) in
     let tab : (let a = c.args in
     There (9 ∷ []) a.text.now c.in-Is.tab) = (there (9 ∷ []) _ _ c.begins_with-2.result c.begins_with-2.ensures (x-read).within.1 (c.if-not-begins_with-2.false)) in
-    omega (arith, (tab).within, c.well_formed.0.0)
+    omega (arith, tab.within)
 
 pub read_whole-requires-2 : goal.read_whole-requires-2
 read_whole-requires-2 c =

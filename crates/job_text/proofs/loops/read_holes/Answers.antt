@@ -33,7 +33,6 @@ pub overflow_add-next : goal.overflow_add-next
 overflow_add-next c =
     let hole = there hole_word _ c.loop-next.next c.hole_at.result c.hole_at.ensures c.loop-next.invariant.0 c.if-not-hole_at.false in
     let w = hole.within in
-    let g = c.well_formed.0.0 in
     omega arith
 
 pub read_loop-hole-requires : goal.read_loop-hole-requires

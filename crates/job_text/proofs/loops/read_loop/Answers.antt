@@ -24,7 +24,6 @@ pub overflow_add-pairs : goal.overflow_add-pairs
 overflow_add-pairs c =
     let w = c.loop-x.invariant.1.within in
     let p = c.requires.1 in
-    let g = c.well_formed.0.0 in
     omega arith
 
 pub store_point-requires : goal.store_point-requires
@@ -36,7 +35,6 @@ overflow_add-count c =
     let point : (Line c.args.text.now c.loop-x.next c.in-Is.x c.in-Is.y c.in-Is.behind) = line _ c.loop-x.next _ c.read_at.ensures c.loop-x.invariant.1.within.1 _ _ _ c.in-Is.is in
     let w = c.loop-x.invariant.1.within in
     let v = (point).within in
-    let g = c.well_formed.0.0 in
     omega arith
 
 pub loop-x-smaller : goal.loop-x-smaller

@@ -10,10 +10,6 @@ use Rattle.shapes.proofs.fronts.put_fronts.Goals as goal
 pub loop-i-init : goal.loop-i-init
 loop-i-init c = (omega arith, omega arith, begin _ _ _)
 
-pub offset_bounds-lengths-i : goal.offset_bounds-lengths-i
-offset_bounds-lengths-i c =
-    omega (arith, c.well_formed.1.1.1.1.0.1)
-
 pub bounds-lengths-i : goal.bounds-lengths-i
 bounds-lengths-i c = omega arith
 
@@ -21,11 +17,6 @@ pub overflow_add-end : goal.overflow_add-end
 overflow_add-end c =
     let left = sum-next c.args.lengths.now c.loop-i.i c.wide.result (omega arith) c.wide.ensures in
     omega arith
-
-pub offset_bounds-nodes-start : goal.offset_bounds-nodes-start
-offset_bounds-nodes-start c =
-    let left = sum-next c.args.lengths.now c.loop-i.i c.wide.result (omega arith) c.wide.ensures in
-    omega (arith, c.well_formed.1.1.1.0.1)
 
 pub slice_bounds-put_shape-count : goal.slice_bounds-put_shape-count
 slice_bounds-put_shape-count c = omega arith

@@ -10,10 +10,6 @@ use Rattle.shapes.proofs.fronts.put_loops.Goals as goal
 pub loop-i-init : goal.loop-i-init
 loop-i-init c = (omega arith, omega arith, begin _ _ _)
 
-pub offset_bounds-loops-i : goal.offset_bounds-loops-i
-offset_bounds-loops-i c =
-    omega (arith, c.well_formed.1.1.1.0.1)
-
 pub bounds-loops-i : goal.bounds-loops-i
 bounds-loops-i c = omega arith
 

@@ -15,10 +15,6 @@ overflow_mul-start c = omega arith
 pub overflow_add-end : goal.overflow_add-end
 overflow_add-end c = omega arith
 
-pub offset_bounds-quads-start : goal.offset_bounds-quads-start
-offset_bounds-quads-start c =
-    omega (arith, c.well_formed.1.0.1)
-
 pub slice_bounds-worst_of-count : goal.slice_bounds-worst_of-count
 slice_bounds-worst_of-count c = omega arith
 

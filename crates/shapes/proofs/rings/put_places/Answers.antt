@@ -10,10 +10,6 @@ use Rattle.shapes.proofs.rings.put_places.Goals as goal
 pub loop-i-init : goal.loop-i-init
 loop-i-init c = (omega arith, begin _ _ _)
 
-pub offset_bounds-nodes-i : goal.offset_bounds-nodes-i
-offset_bounds-nodes-i c =
-    omega (arith, c.well_formed.1.1.1.0.1)
-
 pub bounds-nodes-i : goal.bounds-nodes-i
 bounds-nodes-i c = omega arith
 

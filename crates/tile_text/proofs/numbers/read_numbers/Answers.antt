@@ -33,7 +33,6 @@ pub overflow_add-from : goal.overflow_add-from
 overflow_add-from c =
     let w = c.loop-next.invariant.1.within in
     let p = c.requires.1 in
-    let g = c.well_formed.0.0 in
     omega arith
 
 pub overflow_add-next-in-loop-next : goal.overflow_add-next-in-loop-next
@@ -52,7 +51,6 @@ store-requires c = tt
 pub overflow_add-count : goal.overflow_add-count
 overflow_add-count c =
     let w = c.loop-next.invariant.1.within in
-    let g = c.well_formed.0.0 in
     omega arith
 
 pub loop-next-smaller : goal.loop-next-smaller

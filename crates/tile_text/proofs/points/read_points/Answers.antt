@@ -48,7 +48,6 @@ store_point-requires c =
 pub overflow_add-count : goal.overflow_add-count
 overflow_add-count c =
     let w = c.loop-next.invariant.1.within in
-    let g = c.well_formed.0.0 in
     omega arith
 
 pub overflow_add-next-in-loop-next-2 : goal.overflow_add-next-in-loop-next-2

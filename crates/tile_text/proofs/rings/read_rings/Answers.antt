@@ -39,13 +39,11 @@ pub overflow_add-stored : goal.overflow_add-stored
 overflow_add-stored c =
     let w = c.loop-next.invariant.2.within in
     let v = c.read_numbers-line.ensures.within in
-    let g = c.well_formed.0.0 in
     omega arith
 
 pub overflow_add-count : goal.overflow_add-count
 overflow_add-count c =
     let w = c.loop-next.invariant.2.within in
-    let g = c.well_formed.0.0 in
     omega arith
 
 pub behind_end-next-requires : goal.behind_end-next-requires
