@@ -1,0 +1,22 @@
+-- `exports_state::calls::pave_fan` meets its contract.
+use mathlib.Core.Path.{refl}
+use Rattle.state.specs.State.{Held}
+use Rattle.state.specs.Call.{Left}
+use Rattle.input.specs.declared.Options.{Options}
+use Rattle.input.specs.Job.{job}
+use Rattle.rules.specs.Calls.{fan_call}
+use Rattle.exports_counts.specs.Calls.{options_of}
+use Rattle.exports_counts.proofs.Slices.{state_short, state_answered}
+use borrow.Author.Rules.{rules}
+use Rattle.exports_state.proofs.calls.pave_fan.Goals as goal
+
+pub returns-then-counts-ne8 : goal.returns-then-counts-ne8
+returns-then-counts-ne8 c =
+    let call : Options → Held → Left = λ o. fan_call (job c.args.coords.now c.args.loop_lengths.now c.args.h o) in
+    let options : Options = options_of c.args.corner_margin c.args.min_edge_fraction c.args.front_gap c.args.max_row_rounds c.args.seam c.args.corner_limit in
+    state_short call options _ refl _ _ _ _ _ c.if-counts-ne8.true
+
+pub returns : goal.returns
+returns c =
+    let call : Options → Held → Left = λ o. fan_call (job c.args.coords.now c.args.loop_lengths.now c.args.h o) in
+    state_answered call _ _ c.options_of-options.ensures _ _ _ _ _ _ _ _ _ c.if-counts-ne8.false _ c.counts_of-before.ensures _ c.fan-answer.ensures c.put_answer.ensures
