@@ -1,0 +1,15 @@
+-- `picture::plates::put_done_words` meets its contract.
+use borrow.Author.Rules.{rules}
+use Rattle.picture.proofs.plates.put_done_words.Goals as goal
+
+pub worst-least-requires : goal.worst-least-requires
+worst-least-requires c =
+    c.requires.quads_in_bounds
+
+pub put_done-requires : goal.put_done-requires
+put_done-requires c =
+    rw c.worst-least.ensures c.requires.room
+
+pub returns : goal.returns
+returns c =
+    rw c.worst-least.ensures at c.put_done.ensures

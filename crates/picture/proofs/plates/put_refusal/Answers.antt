@@ -1,0 +1,30 @@
+-- `picture::plates::put_refusal` meets its contract.
+use Rattle.fan_search.specs.Values.{boxed}
+use Rattle.picture.proofs.Fitting.{outlined_fits}
+use Rattle.text.proofs.Midst.{put_same}
+use Rattle.picture.proofs.Plating.{outlined_is}
+use borrow.Author.Rules.{rules}
+use native.Mathlib.Omega.{arith}
+use Rattle.picture.proofs.plates.put_refusal.Goals as goal
+
+pub put_outlined-requires : goal.put_outlined-requires
+put_outlined-requires c =
+    let few = c.requires.few in
+    let h = outlined_fits (boxed c.box_of-b.result) c.margin_of-m.result c.args.coords.now c.args.loops.now c.args.n few in
+    let g = c.requires.picture_room_in_bounds in record {
+      room = omega arith;
+      loops_in_bounds = few.points;
+    }
+
+pub returns : goal.returns
+returns c =
+    let few = c.requires.few in
+    let b = boxed c.box_of-b.result in
+    let m = c.margin_of-m.result in
+    let a = c.args in
+    let h = outlined_fits b m a.coords.now a.loops.now a.n few in
+    let w = c.put_outlined.ensures in
+    let p = w.place in record {
+      put = put_same (outlined_is b m a.coords.now a.loops.now a.h c.box_of-b.ensures c.margin_of-m.ensures a.n) w;
+      upper_bound = omega arith;
+    }
