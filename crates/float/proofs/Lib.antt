@@ -18,3 +18,4 @@ pub mod Within
 pub mod Lengths
 pub mod Theorems
 pub mod Bounds
+pub mod ValuesAgree

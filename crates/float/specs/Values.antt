@@ -1,7 +1,7 @@
--- Worked values of the definitions: one table, one theorem over its rows. antt computes both sides.
-use Rattle.std.specs.Prelude.{◌≡◌, ℕ, Bool, true, false, ◌&&◌, List, [], ◌∷◌, ◌==◌, refl, Float}
+-- Worked values of the definitions: one table. proofs/ValuesAgree.antt has the one theorem over its rows; antt computes both sides.
+use Rattle.std.specs.Prelude.{ℕ, Bool, true, false, ◌&&◌, List, [], ◌∷◌, ◌==◌, Float}
 use Rattle.std.specs.Float.{nan, inf, binary64}
-use Rattle.std.specs.Float.Ieee.{of_bits, to_bits, neg, round}
+use Rattle.std.specs.Float.Ieee.{of_bits, to_bits, neg}
 use Rattle.float.specs.Helpers.{decimal, round_away}
 use Rattle.float.specs.Root.{root}
 
@@ -18,7 +18,7 @@ rooted x b = record { given = to_bits binary64 (root x); wanted = b }
 abbrev rounded : Float → ℕ → Row
 rounded x n = record { given = round_away x; wanted = n }
 
-abbrev rows : List Row
+abbrev pub rows : List Row
 rows =
     rooted (decimal 2 0) 0x3FF6_A09E_667F_3BCD
     ∷ rooted (decimal 0 0) 0
@@ -44,10 +44,6 @@ rows =
     ∷ rounded nan 0
     ∷ []
 
-unfoldable all_agree : List Row → Bool
+unfoldable pub all_agree : List Row → Bool
 all_agree [] = true
 all_agree (r ∷ rs) = r.given == r.wanted && all_agree rs
-
-values_agree : all_agree rows ≡ true
-unfolding all_agree root round_away round of_bits to_bits neg
-values_agree = refl

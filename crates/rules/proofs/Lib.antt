@@ -21,3 +21,4 @@ pub mod Refusals
 pub mod Answers
 pub mod Uses
 pub mod Demands
+pub mod PlatesAgree

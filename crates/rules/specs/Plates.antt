@@ -1,4 +1,4 @@
--- Document 01's starred plates: one table, and one theorem over its rows. antt computes both sides.
+-- Document 01's starred plates: one table. proofs/PlatesAgree.antt has the one theorem over its rows; antt computes both sides.
 use Rattle.std.specs.Prelude.{◌≡◌, refl, Bool, true, false, cond, ◌&&◌, List, [], ◌∷◌, map, ℕ, suc, ◌*◌, ◌/◌, length, get_or, take, drop, eqb, Float}
 use Rattle.std.specs.Float.{nan, binary64}
 use Rattle.std.specs.Float.Ieee.{to_bits, of_bits, of_int, add, sub, mul, div, round, neg, lt, le, is_nan, size}
@@ -71,24 +71,24 @@ six_nodes = record {
 
 -- ---- what is looked at, as numbers
 
-unfoldable bits : Float → ℕ
+unfoldable pub bits : Float → ℕ
 bits x = to_bits binary64 x
 
 -- the eight counts in document 01's order
-unfoldable counted : Counts → List ℕ
+unfoldable pub counted : Counts → List ℕ
 counted c = c.points ∷ c.quads ∷ c.fronts ∷ c.row_quads ∷ c.core_quads ∷ c.row_rounds ∷ c.passes_begun ∷ c.laid ∷ []
 
 -- how many places of a list are not 0
-unfoldable nonzero : List ℕ → ℕ
+unfoldable pub nonzero : List ℕ → ℕ
 nonzero [] = 0
 nonzero (x ∷ xs) = cond (eqb x 0) (nonzero xs) (suc (nonzero xs))
 
 -- how long a buffer is, and how many of its places behind the first n are not 0
-unfoldable behind : ℕ → List ℕ → List ℕ
+unfoldable pub behind : ℕ → List ℕ → List ℕ
 behind n xs = length xs ∷ nonzero (drop n xs) ∷ []
 
 -- all of a call's answer and of what it left: the number, the counts, the bits of the points, the quads' nodes, the fronts' lengths and then their nodes; and what is behind them
-unfoldable everything : Left → List ℕ
+unfoldable pub everything : Left → List ℕ
 everything x =
     let b = x.held in
     let c = b.counts in
@@ -108,7 +108,7 @@ everything x =
     ∷ [])
 
 -- the number, how many nodes there are, and the bits of the second
-unfoldable second_node : Left → List ℕ
+unfoldable pub second_node : Left → List ℕ
 second_node x = number_of x ∷ x.held.counts.points ∷ bits (get_or x.held.points 2 nan) ∷ bits (get_or x.held.points 3 nan) ∷ []
 
 -- ---- the table
@@ -128,7 +128,7 @@ clean = 8192 ∷ 0 ∷ 16384 ∷ 0 ∷ 16 ∷ 0 ∷ 2048 ∷ 0 ∷ []
 abbrev refusal : ℕ → List ℕ
 refusal n = n ∷ 0 ∷ 0 ∷ 0 ∷ 0 ∷ 0 ∷ 0 ∷ 0 ∷ 0 ∷ clean
 
-abbrev rows : List Row
+abbrev pub rows : List Row
 rows =
     -- the square as the program prints it
     row (everything (job_call (square (whole 1000) 3000) right_lengths))
@@ -160,16 +160,12 @@ rows =
     ∷ row (bits (root (whole 2)) ∷ []) (0x3FF6A09E667F3BCD ∷ [])
     ∷ []
 
-unfoldable same_list : List ℕ → List ℕ → Bool
+unfoldable pub same_list : List ℕ → List ℕ → Bool
 same_list [] [] = true
 same_list [] (y ∷ ys) = false
 same_list (x ∷ xs) [] = false
 same_list (x ∷ xs) (y ∷ ys) = eqb x y && same_list xs ys
 
-unfoldable all_agree : List Row → Bool
+unfoldable pub all_agree : List Row → Bool
 all_agree [] = true
 all_agree (w ∷ ws) = same_list w.computed w.stated && all_agree ws
-
-plates_agree : all_agree rows ≡ true
-unfolding all_agree same_list bits counted nonzero behind everything second_node to_bits of_bits of_int add sub mul div round neg lt le is_nan size absolute lesser greater is_finite round_away clamp_unit root side_length area_sum signed_area sharp_at length_sum front_length quad_area corner_value corner_passes corners_pass least_corner rings sum_of holes_area domain_area joined first_true wrong_lengths wrong_shape wrong_size wrong_options wrong_coordinate input_number default_limit some member repeated wrong_counts wrong_values wrong_state quads_of cut reading written job_left state_left on_state close kept unclosed turned loop_ring margin span inner inner_sum longest total planned parts inner_point inner_points placed_on placed sample_loop numbered with_loop sample_from sampled on_job sample_call project every quad_passes new_points row_quads rest_stands row_stands row_number committed next_row inserted ordered pass_order rows_in_order one_pass some_passes turned_quad least_of close_four first_half second_half best_split closure kept_fronts closed closings and_then paved job_call close_call
-plates_agree = refl
