@@ -1,21 +1,17 @@
 -- Document 01's starred plates come out as specs/Plates.antt states them.
-use Rattle.std.specs.Prelude.{◌≡◌, refl, Bool, true, false, cond, ◌&&◌, List, [], ◌∷◌, map, ℕ, suc, ◌*◌, ◌/◌, length, get_or, take, drop, eqb, Float}
-use Rattle.std.specs.Float.{nan, binary64}
+use Rattle.std.specs.Prelude.{◌≡◌, refl, true}
 use Rattle.std.specs.Float.Ieee.{to_bits, of_bits, of_int, add, sub, mul, div, round, neg, lt, le, is_nan, size}
-use Rattle.float.specs.Helpers.{decimal, absolute, lesser, greater, is_finite, round_away, clamp_unit}
+use Rattle.float.specs.Helpers.{absolute, lesser, greater, is_finite, round_away, clamp_unit}
 use Rattle.float.specs.Root.{root}
 use Rattle.geometry.specs.Measures.{side_length, area_sum, signed_area, sharp_at, length_sum, front_length, quad_area, corner_value, corner_passes, corners_pass, least_corner}
 use Rattle.geometry.specs.Domain.{rings, sum_of, holes_area, domain_area}
-use Rattle.state.specs.declared.Counts.{Counts}
-use Rattle.state.specs.Limits.{points_length, quads_length, front_node_limit, front_limit}
-use Rattle.state.specs.State.{State, Lengths, joined, numbered, written, quads_of, cut, reading}
+use Rattle.state.specs.State.{joined, numbered, written, quads_of, cut, reading}
 use Rattle.state.specs.Outcome.{first_true}
 use Rattle.state.specs.Coordinates.{wrong_coordinate}
 use Rattle.state.specs.Given.{some, member, repeated, wrong_counts, wrong_values, wrong_state}
-use Rattle.state.specs.Call.{Left, number_of, lengths_of, job_left, state_left, on_state}
-use Rattle.input.specs.Job.{Job, job, wrong_lengths, wrong_shape, wrong_size, wrong_options, input_number}
+use Rattle.state.specs.Call.{job_left, state_left, on_state}
+use Rattle.input.specs.Job.{wrong_lengths, wrong_shape, wrong_size, wrong_options, input_number}
 use Rattle.input.specs.Limit.{default_limit}
-use Rattle.input.specs.Defaults.{defaults}
 use Rattle.planning.specs.Ring.{close, kept, unclosed, turned, loop_ring}
 use Rattle.planning.specs.Plan.{margin, span, inner, inner_sum, longest, total, planned, parts}
 use Rattle.placing.specs.Placed.{inner_point, inner_points, placed_on, placed}

@@ -14,7 +14,6 @@ use Rattle.state.specs.Given.{member, wrong_state}
 use Rattle.state.specs.Call.{job_left, state_left, on_state}
 use Rattle.rules.specs.RowCall.{row_at, row_call}
 use Rattle.rules.specs.Passes.{some_passes}
-use Rattle.rules.specs.Fan.{fan}
 use Rattle.rules.specs.Calls.{and_then, paved, job_call, close_call, fan_call}
 use Rattle.rules.specs.Demands.{job_numbers, sample_numbers, row_numbers, close_numbers, fan_numbers, Listed, Demand1}
 use Rattle.rules.proofs.Lists.{or_true_right}
