@@ -1,15 +1,15 @@
 -- What the fronts give one after the other, one a turn: their quads, and whether each is kept.
 use mathlib.Core.Path.{◌≡◌, refl, sym, ◌∙◌, ap}
-use mathlib.Core.Bool.{Bool, true, false, cond}
+use mathlib.Core.Bool.{Bool, false}
 use mathlib.Core.List.{List, [], ◌∷◌, ◌++◌, map, map-append, append-nil}
-use Prim.Native.Nat.{ℕ, zero, suc, ◌+◌, ◌*◌, ◌<◌, ◌≤◌}
+use Prim.Native.Nat.{ℕ, suc, ◌+◌, ◌*◌, ◌<◌, ◌≤◌}
 use native.Mathlib.Nat.{zero-add, not-suc-le-zero}
 use native.Mathlib.Numerals.{add-one}
 use native.Mathlib.Omega.{arith}
 use lib.Dec.{eqb}
 use lib.Ieee.{Float}
 use lib.ListN.{length, get_or, take, set, length-append}
-use lib.Seq.{sets, take-suc, take-length}
+use lib.Seq.{sets, take-suc}
 use Rattle.state.specs.State.{Quad, quad_nodes, joined}
 use Rattle.state.proofs.Growing.{joined-append, numbers, numbers-append, length-numbers}
 use Rattle.state.proofs.Stores.{sets-append, table_step}

@@ -1,5 +1,5 @@
 -- The measures on points, sides, rings and quads, each in the order of the Rust's operations. Definitions only.
-use Rattle.std.specs.Prelude.{ℕ, zero, suc, Bool, true, false, not, cond, ◌&&◌, ◌||◌, Float}
+use Rattle.std.specs.Prelude.{ℕ, zero, suc, Bool, false, not, cond, ◌&&◌, ◌||◌, Float}
 use Rattle.std.specs.Float.{inf}
 use Rattle.std.specs.Float.Ieee.{neg, lt, le}
 use Rattle.float.specs.Helpers.{decimal, lesser, clamp_unit, is_finite}

@@ -1,15 +1,15 @@
 -- For whoever takes step after step: a state that fits the buffers has sound and clean ones when it is written, and a state that is read from sound buffers fits.
 use mathlib.Core.Path.{◌≡◌, refl, sym, ◌∙◌, ap}
-use mathlib.Core.Bool.{Bool, true, false, not, cond, ◌&&◌, ◌||◌, true≢false}
-use mathlib.Core.List.{List, [], ◌∷◌, ◌++◌, map}
-use Prim.Native.Nat.{ℕ, zero, suc, ◌+◌, ◌-◌, ◌*◌, ◌/◌, ◌<◌, ◌≤◌, suc-le-suc}
+use mathlib.Core.Bool.{false}
+use mathlib.Core.List.{List, [], ◌∷◌, map}
+use Prim.Native.Nat.{ℕ, zero, suc, ◌+◌, ◌-◌, ◌*◌, ◌<◌, ◌≤◌, suc-le-suc}
 use native.Mathlib.Omega.{arith}
-use borrow.Author.Tests.{leb-true, ltb-false, lt-leb, leb-false}
-use lib.Dec.{eqb, leb, ltb}
-use lib.ListN.{length, get_or, take, set, replicate, length-append, length-replicate, length-map, length-set, get_or-append}
+use borrow.Author.Tests.{lt-leb, leb-false}
+use lib.Dec.{leb}
+use lib.ListN.{length, get_or, take, set, replicate, length-append, length-replicate, length-map, get_or-append}
 use lib.Seq.{take_at, length-take-le, get_or-take}
 use Rattle.state.specs.Limits.{front_limit, front_node_limit, point_limit, points_length, quad_limit, quads_length}
-use Rattle.state.proofs.Basics.{or_false, zero_one}
+use Rattle.state.proofs.Basics.{or_false}
 use Rattle.float.specs.Helpers.{decimal}
 use Rattle.geometry.specs.Domain.{sum_of}
 use Rattle.state.specs.State.{State, Held, quad_nodes, joined, padded, nodes, numbered, written, reading}

@@ -1,6 +1,6 @@
 -- Lists written into a buffer, and what is behind them: points, quads and front numbers, one a turn.
 use mathlib.Core.Path.{◌≡◌, refl, sym, ◌∙◌, ap}
-use mathlib.Core.List.{List, [], ◌∷◌, ◌++◌, map, map-append, append_assoc, append-nil}
+use mathlib.Core.List.{List, [], ◌∷◌, ◌++◌, map, map-append, append_assoc}
 use Prim.Native.Nat.{ℕ, zero, suc, ◌+◌, ◌-◌, ◌*◌, ◌<◌, ◌≤◌}
 use native.Mathlib.Nat.{add-suc, suc-add, add-zero, zero-add}
 use native.Mathlib.Numerals.{add-one}
@@ -9,7 +9,7 @@ use lib.ListN.{length, get_or, take, drop, set, replicate, length-append, length
 use lib.Seq.{drop_at, drop-set-add, drop-set-lt, sets, sets-eq, take_at, take-set-le, take-suc, take-length, length-take-le}
 use Rattle.state.specs.State.{Quad, quad_nodes, joined, padded}
 use Rattle.state.specs.State.{numbered}
-use Rattle.state.proofs.Stores.{sets-append, store_behind}
+use Rattle.state.proofs.Stores.{store_behind}
 
 -- ---- a list written from a place on: what is before it and what is behind it
 

@@ -1,14 +1,13 @@
 -- Reading what was written gives the state.
-use mathlib.Core.Path.{◌≡◌, refl, ap, ap₂, sym, ◌∙◌}
+use mathlib.Core.Path.{◌≡◌, refl, ap, ap₂}
 use mathlib.Core.List.{List, [], ◌∷◌, ◌++◌, map, append_assoc}
-use Prim.Native.Nat.{ℕ, zero, suc, ◌+◌, ◌-◌, ◌*◌, ◌/◌, ◌%◌}
+use Prim.Native.Nat.{ℕ, ◌-◌, ◌*◌, ◌%◌}
 use native.Mathlib.Omega.{arith}
-use lib.ListN.{length, get_or, take, drop, replicate, length-map}
+use lib.ListN.{length, replicate, length-map}
 use lib.Seq.{take_at, take-append_seam, drop-append_seam}
-use lib.Ieee.{Float}
 use Rattle.float.specs.Helpers.{decimal}
 use Rattle.state.specs.Limits.{front_limit, front_node_limit, points_length, quads_length}
-use Rattle.state.specs.State.{State, Quad, quad, quad_nodes, nodes, joined, padded, written, quads_of, cut, reading}
+use Rattle.state.specs.State.{State, Quad, quad_nodes, nodes, joined, written, quads_of, cut, reading}
 
 pub quads_back : (qs : List Quad) (rest : List ℕ) → quads_of (length qs) (joined (map quad_nodes qs) ++ rest) ≡ qs
 unfolding quads_of joined

@@ -1,5 +1,5 @@
 -- The state of a paving, its written form in the lent buffers, and reading it back. Definitions only.
-use Rattle.std.specs.Prelude.{ℕ, zero, suc, ◌+◌, ◌-◌, ◌*◌, ◌/◌, List, [], ◌∷◌, ◌++◌, map, length, get_or, take, drop, replicate, Float}
+use Rattle.std.specs.Prelude.{ℕ, zero, suc, ◌-◌, ◌*◌, ◌/◌, List, [], ◌∷◌, ◌++◌, map, length, get_or, take, drop, replicate, Float}
 use Rattle.float.specs.Helpers.{decimal}
 use Rattle.state.specs.declared.Counts.{Counts}
 use Rattle.state.specs.Limits.{front_limit, front_node_limit, points_length, quads_length}

@@ -1,8 +1,6 @@
 -- `loop_text::put_lines` meets its contract.
-use mathlib.Core.List.{List}
-use Prim.Native.Nat.{ℕ, ◌≤◌}
+use Prim.Native.Nat.{◌≤◌}
 use native.Mathlib.Omega.{arith}
-use borrow.Author.Rules.{rules}
 use lib.ListN.{length}
 use Rattle.state.specs.State.{cut}
 use Rattle.answer_text.proofs.Lengths.{fronts_length}

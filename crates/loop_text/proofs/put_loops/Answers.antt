@@ -40,9 +40,9 @@ slice_bounds-put_sampled-end-in-Is c =
 
 pub returns-in-Unreadable : goal.returns-in-Unreadable
 returns-in-Unreadable c = record {
-      put = put_same (read_none _ (no_job _ _ _ _ c.read_job.ensures c.in-Unreadable.is)) c.put_refused.ensures.put;
-      upper_bound = c.put_refused.ensures.upper_bound;
-    }
+  put = put_same (read_none _ (no_job _ _ _ _ c.read_job.ensures c.in-Unreadable.is)) c.put_refused.ensures.put;
+  upper_bound = c.put_refused.ensures.upper_bound;
+}
 
 pub returns-in-TooMany : goal.returns-in-TooMany
 returns-in-TooMany c =

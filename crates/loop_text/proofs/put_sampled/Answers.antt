@@ -1,13 +1,9 @@
 -- `loop_text::put_sampled` meets its contract.
-use mathlib.Core.Path.{◌≡◌, refl, sym, ◌∙◌, ap}
-use Prim.Native.Nat.{◌≤◌}
+use mathlib.Core.Path.{refl, sym, ◌∙◌, ap}
 use native.Mathlib.Omega.{arith}
-use borrow.Author.Rules.{rules}
-use lib.ListN.{length, take}
 use lib.Seq.{length-take-le}
 use Rattle.state.specs.State.{no_counts}
 use Rattle.state.specs.Call.{held}
-use Rattle.state.specs.Sound.{Sound}
 use Rattle.text.proofs.Midst.{put_same}
 use Rattle.loop_text.specs.SampledText.{loop_lines}
 use Rattle.loop_text.proofs.Sampling.{same_call, done_sound, done_lines, refused_lines}

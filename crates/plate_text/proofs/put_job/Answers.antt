@@ -11,10 +11,10 @@ use Rattle.plate_text.proofs.put_job.Goals as goal
 
 pub put_answer-requires : goal.put_answer-requires
 put_answer-requires c = record {
-      text_limit_in_bounds = search rules;
-      sound_answer = answer_sound _ _ _ _ _ _ _ _ _ c.job-answer.ensures
-          (lent-lengths c.job-answer.new.points c.job-answer.new.quads c.job-answer.new.front_nodes c.job-answer.new.front_lengths (answer_counts no_counts c.job-answer.result) (search rules) (search rules) (search rules) (search rules));
-    }
+  text_limit_in_bounds = search rules;
+  sound_answer = answer_sound _ _ _ _ _ _ _ _ _ c.job-answer.ensures
+      (lent-lengths c.job-answer.new.points c.job-answer.new.quads c.job-answer.new.front_nodes c.job-answer.new.front_lengths (answer_counts no_counts c.job-answer.result) (search rules) (search rules) (search rules) (search rules));
+}
 
 pub returns : goal.returns
 returns c =

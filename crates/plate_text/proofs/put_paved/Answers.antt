@@ -36,18 +36,18 @@ slice_bounds-put_job-end-in-Is c =
 
 pub returns-in-Unreadable : goal.returns-in-Unreadable
 returns-in-Unreadable c = record {
-      put = put_same (no_job _ _ _ _ c.read_job.ensures c.in-Unreadable.is) c.put_refused.ensures.put;
-      upper_bound = c.put_refused.ensures.upper_bound;
-    }
+  put = put_same (no_job _ _ _ _ c.read_job.ensures c.in-Unreadable.is) c.put_refused.ensures.put;
+  upper_bound = c.put_refused.ensures.upper_bound;
+}
 
 pub returns-in-TooMany : goal.returns-in-TooMany
 returns-in-TooMany c = record {
-      put = put_same (many_job _ _ _ _ c.read_job.ensures c.in-TooMany.is) c.put_refused-in-TooMany.ensures.put;
-      upper_bound = c.put_refused-in-TooMany.ensures.upper_bound;
-    }
+  put = put_same (many_job _ _ _ _ c.read_job.ensures c.in-TooMany.is) c.put_refused-in-TooMany.ensures.put;
+  upper_bound = c.put_refused-in-TooMany.ensures.upper_bound;
+}
 
 pub returns-in-Is : goal.returns-in-Is
 returns-in-Is c = record {
-      put = put_same (found _ _ _ _ c.read_job.ensures _ _ _ c.in-Is.is).text c.put_job.ensures.put;
-      upper_bound = c.put_job.ensures.upper_bound;
-    }
+  put = put_same (found _ _ _ _ c.read_job.ensures _ _ _ c.in-Is.is).text c.put_job.ensures.put;
+  upper_bound = c.put_job.ensures.upper_bound;
+}

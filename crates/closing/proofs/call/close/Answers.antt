@@ -12,7 +12,6 @@ use Rattle.input.specs.Job.{Job, job, input_number}
 use Rattle.input.proofs.Shape.{right_lengths_lem}
 use Rattle.rules.specs.Closing.{closings}
 use Rattle.rules.specs.Calls.{close_call}
-use borrow.Author.Rules.{rules}
 use Rattle.closing.proofs.call.close.Goals as goal
 
 pub returns-then-input-ne0 : goal.returns-then-input-ne0
@@ -48,7 +47,7 @@ close_small_fronts-requires c =
     let number : c.input_number-input.result ≡ input_number job_at (lengths given) = c.input_number-input.ensures in
     let right : lengths given ≡ lengths_of points_length quads_length front_node_limit front_limit = right_lengths_lem job_at given _ number c.if-input-ne0.false in
     let sound-at : Sound given = sounding.sound given right (sym c.wrong_state.ensures ∙ c.if-wrong_state.false) in
- record {
+    record {
       sound = sound-at;
       clean = λ h. absurd (true≢false (sym h));
     }

@@ -1,9 +1,8 @@
-use mathlib.Core.Path.{◌≡◌, refl}
-use Prim.Native.Nat.{◌-◌, ◌≤◌}
+use mathlib.Core.Path.{refl}
+use Prim.Native.Nat.{◌-◌}
 use native.Mathlib.Omega.{arith}
 use borrow.Author.Rules.{scaled_Fits}
-use lib.ListN.{length, take, length-set}
-use lib.Seq.{sets}
+use lib.ListN.{length, length-set}
 use Rattle.state.proofs.Growing.{copied, copied_all}
 use Rattle.closing.proofs.keeping.copy_numbers.Goals as goal
 

@@ -1,11 +1,8 @@
 -- `closing::keeping::copy_numbers` meets its contract. The invariant: i numbers are copied. The measure is the numbers left.
-use mathlib.Core.Path.{◌≡◌, refl}
+use mathlib.Core.Path.{◌≡◌}
 use Prim.Native.Nat.{◌-◌, ◌≤◌}
-use native.Mathlib.Omega.{arith}
-use borrow.Author.Rules.{scaled_Fits}
-use lib.ListN.{length, take, length-set}
+use lib.ListN.{length, take}
 use lib.Seq.{sets}
-use Rattle.state.proofs.Growing.{copied, copied_all}
 use Rattle.closing.proofs.keeping.copy_numbers.Given as goal
 
 abbrev pub invariant-loop-i : goal.invariant-loop-i

@@ -1,6 +1,4 @@
 -- `closing::keeping::keep_front` meets its contract.
-use borrow.Author.Tests.{not-true, not-false}
-use borrow.Author.Rules.{rules}
 use Rattle.closing.proofs.keeping.keep_front.Goals as goal
 
 pub returns-then-not-keep : goal.returns-then-not-keep

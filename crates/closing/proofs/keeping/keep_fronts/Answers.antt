@@ -1,9 +1,9 @@
 use mathlib.Core.Path.{◌≡◌, refl, ◌∙◌}
 use Prim.Native.Nat.{◌+◌, ◌-◌, ◌≤◌, ◌<◌}
 use native.Mathlib.Omega.{arith}
-use borrow.Author.Rules.{rules, scaled_Fits}
+use borrow.Author.Rules.{scaled_Fits}
 use lib.ListN.{length, get_or}
-use Rattle.closing.proofs.Packing.{Moved, moved_none, moved_more, within, node_within, front_within, nodes_packed, lengths_packed}
+use Rattle.closing.proofs.Packing.{moved_none, moved_more, within, node_within, front_within, nodes_packed, lengths_packed}
 use Rattle.closing.proofs.keeping.keep_fronts.Goals as goal
 
 pub loop-li-init : goal.loop-li-init
@@ -26,7 +26,7 @@ bounds-kept-li c =
 pub keep_front-place-requires : goal.keep_front-place-requires
 keep_front-place-requires c =
     let there : c.loop-li.li < length c.loop-li.front_lengths = let p = c.requires.0 in let l = c.loop-li-test.true in let e = c.loop-li.invariant.2 in omega arith in
-    let end-within : c.loop-li.start + get_or c.loop-li.front_lengths c.loop-li.li 0 ≤ length c.loop-li.front_nodes = (    let w = within c.args.front_nodes.now c.args.front_lengths.now c.args.kept.now c.requires.0 c.requires.1 _ _ _ _ _ c.loop-li.invariant.3 c.loop-li-test.true in
+    let end-within : c.loop-li.start + get_or c.loop-li.front_lengths c.loop-li.li 0 ≤ length c.loop-li.front_nodes = (let w = within c.args.front_nodes.now c.args.front_lengths.now c.args.kept.now c.requires.0 c.requires.1 _ _ _ _ _ c.loop-li.invariant.3 c.loop-li-test.true in
     let e = c.loop-li.invariant.1 in omega arith) in
     let m = c.loop-li.invariant.3 in
     let few = m.few in
@@ -36,15 +36,15 @@ keep_front-place-requires c =
 
 pub overflow_add-start : goal.overflow_add-start
 overflow_add-start c =
-    let end-within : c.loop-li.start + get_or c.loop-li.front_lengths c.loop-li.li 0 ≤ length c.loop-li.front_nodes = (    let w = within c.args.front_nodes.now c.args.front_lengths.now c.args.kept.now c.requires.0 c.requires.1 _ _ _ _ _ c.loop-li.invariant.3 c.loop-li-test.true in
+    let end-within : c.loop-li.start + get_or c.loop-li.front_lengths c.loop-li.li 0 ≤ length c.loop-li.front_nodes = (let w = within c.args.front_nodes.now c.args.front_lengths.now c.args.kept.now c.requires.0 c.requires.1 _ _ _ _ _ c.loop-li.invariant.3 c.loop-li-test.true in
     let e = c.loop-li.invariant.1 in omega arith) in
     let w = end-within in
     let e = c.wide-start.ensures in
- omega (arith, c.well_formed)
+    omega (arith, c.well_formed)
 
 pub overflow_step-li : goal.overflow_step-li
 overflow_step-li c =
- omega (arith, c.loop-li-test.true, c.well_formed)
+    omega (arith, c.loop-li-test.true, c.well_formed)
 
 pub loop-li-smaller : goal.loop-li-smaller
 loop-li-smaller c =

@@ -1,10 +1,8 @@
 -- `closing::keeping::keep_fronts` meets its contract. The invariant: of the first `li` fronts, those that are kept stand at the front of the buffers. The measure is the fronts left.
-use mathlib.Core.Path.{◌≡◌, refl, ◌∙◌}
-use Prim.Native.Nat.{◌+◌, ◌-◌, ◌≤◌, ◌<◌}
-use native.Mathlib.Omega.{arith}
-use borrow.Author.Rules.{rules, scaled_Fits}
-use lib.ListN.{length, get_or}
-use Rattle.closing.proofs.Packing.{Moved, moved_none, moved_more, within, node_within, front_within, nodes_packed, lengths_packed}
+use mathlib.Core.Path.{◌≡◌}
+use Prim.Native.Nat.{◌-◌, ◌≤◌}
+use lib.ListN.{length}
+use Rattle.closing.proofs.Packing.{Moved}
 use Rattle.closing.proofs.keeping.keep_fronts.Given as goal
 
 abbrev pub invariant-loop-li : goal.invariant-loop-li

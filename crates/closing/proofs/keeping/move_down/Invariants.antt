@@ -1,11 +1,8 @@
 -- `closing::keeping::move_down` meets its contract. The invariant: i nodes are moved. The measure is the nodes left.
-use mathlib.Core.Path.{◌≡◌, refl}
+use mathlib.Core.Path.{◌≡◌}
 use Prim.Native.Nat.{◌-◌, ◌≤◌}
-use native.Mathlib.Omega.{arith}
-use borrow.Author.Rules.{scaled_Fits}
-use lib.ListN.{length, take, drop, length-set}
+use lib.ListN.{length, take, drop}
 use lib.Seq.{sets}
-use Rattle.closing.proofs.Moving.{moved_more}
 use Rattle.closing.proofs.keeping.move_down.Given as goal
 
 abbrev pub invariant-loop-i : goal.invariant-loop-i

@@ -16,7 +16,6 @@ use Rattle.state.proofs.Reading.{sizes_long, fits, sound_counted}
 use Rattle.state.proofs.Zeros.{still_sound}
 use Rattle.closing_search.specs.Finding.{stays}
 use Rattle.closing.proofs.Writing.{points, fronts, added, read_below, full, closes}
-use borrow.Author.Rules.{rules}
 use Rattle.closing.proofs.step.close_small_fronts.Goals as goal
 
 pub slice_bounds-find_closures-end-2 : goal.slice_bounds-find_closures-end-2

@@ -1,11 +1,10 @@
 use mathlib.Core.Path.{◌≡◌, refl, ◌∙◌}
-use Prim.Native.Nat.{◌+◌, ◌*◌, ◌-◌, ◌≤◌, ◌<◌}
+use Prim.Native.Nat.{◌+◌, ◌*◌, ◌≤◌, ◌<◌}
 use native.Mathlib.Omega.{arith}
-use borrow.Author.Rules.{rules}
 use lib.ListN.{length, length-set}
 use Rattle.state.specs.State.{cut}
 use Rattle.state.proofs.Cutting.{total_within, part_of_all, part_is, length_cut}
-use Rattle.closing_search.proofs.Gathering.{Found, found_none, found_more, few_quads}
+use Rattle.closing_search.proofs.Gathering.{found_none, found_more, few_quads}
 use Rattle.closing_search.proofs.finding.find_closures.Goals as goal
 
 pub loop-li-init : goal.loop-li-init
@@ -17,7 +16,7 @@ front_at-front-requires c =
 
 pub nodes_of-requires : goal.nodes_of-requires
 nodes_of-requires c =
-    let within : c.front_at-front.result.start + c.front_at-front.result.len ≤ length c.args.front_nodes.now = (    let w = total_within c.args.lengths.now _ c.loop-li-test.true in
+    let within : c.front_at-front.result.start + c.front_at-front.result.len ≤ length c.args.front_nodes.now = (let w = total_within c.args.lengths.now _ c.loop-li-test.true in
     let fs = c.front_at-front.ensures.0 in
     let fl = c.front_at-front.ensures.1 in
     let f = c.requires.lengths_in_bounds.0 in
@@ -30,7 +29,7 @@ close_front-closure-requires c =
 
 pub overflow_mul-count : goal.overflow_mul-count
 overflow_mul-count c =
-    let room : (c.loop-li.count ≤ 30) × (c.loop-li.count * 4 + 8 ≤ length c.loop-li.added) × (c.loop-li.li < length c.loop-li.kept) = (    let p = c.requires.lengths_len_bound in
+    let room : (c.loop-li.count ≤ 30) × (c.loop-li.count * 4 + 8 ≤ length c.loop-li.added) × (c.loop-li.li < length c.loop-li.kept) = (let p = c.requires.lengths_len_bound in
     let inv = c.loop-li.invariant in
     let few = inv.3.few in
     let l = c.loop-li-test.true in
@@ -39,7 +38,7 @@ overflow_mul-count c =
 
 pub put_closure-requires : goal.put_closure-requires
 put_closure-requires c =
-    let room : (c.loop-li.count ≤ 30) × (c.loop-li.count * 4 + 8 ≤ length c.loop-li.added) × (c.loop-li.li < length c.loop-li.kept) = (    let p = c.requires.lengths_len_bound in
+    let room : (c.loop-li.count ≤ 30) × (c.loop-li.count * 4 + 8 ≤ length c.loop-li.added) × (c.loop-li.li < length c.loop-li.kept) = (let p = c.requires.lengths_len_bound in
     let inv = c.loop-li.invariant in
     let few = inv.3.few in
     let l = c.loop-li-test.true in
@@ -48,7 +47,7 @@ put_closure-requires c =
 
 pub bounds-kept-li : goal.bounds-kept-li
 bounds-kept-li c =
-    let room : (c.loop-li.count ≤ 30) × (c.loop-li.count * 4 + 8 ≤ length c.loop-li.added) × (c.loop-li.li < length c.loop-li.kept) = (    let p = c.requires.lengths_len_bound in
+    let room : (c.loop-li.count ≤ 30) × (c.loop-li.count * 4 + 8 ≤ length c.loop-li.added) × (c.loop-li.li < length c.loop-li.kept) = (let p = c.requires.lengths_len_bound in
     let inv = c.loop-li.invariant in
     let few = inv.3.few in
     let l = c.loop-li-test.true in
@@ -57,7 +56,7 @@ bounds-kept-li c =
 
 pub overflow_add-count : goal.overflow_add-count
 overflow_add-count c =
-    let room : (c.loop-li.count ≤ 30) × (c.loop-li.count * 4 + 8 ≤ length c.loop-li.added) × (c.loop-li.li < length c.loop-li.kept) = (    let p = c.requires.lengths_len_bound in
+    let room : (c.loop-li.count ≤ 30) × (c.loop-li.count * 4 + 8 ≤ length c.loop-li.added) × (c.loop-li.li < length c.loop-li.kept) = (let p = c.requires.lengths_len_bound in
     let inv = c.loop-li.invariant in
     let few = inv.3.few in
     let l = c.loop-li-test.true in
@@ -68,7 +67,7 @@ overflow_add-count c =
 
 pub overflow_step-li : goal.overflow_step-li
 overflow_step-li c =
-    let room : (c.loop-li.count ≤ 30) × (c.loop-li.count * 4 + 8 ≤ length c.loop-li.added) × (c.loop-li.li < length c.loop-li.kept) = (    let p = c.requires.lengths_len_bound in
+    let room : (c.loop-li.count ≤ 30) × (c.loop-li.count * 4 + 8 ≤ length c.loop-li.added) × (c.loop-li.li < length c.loop-li.kept) = (let p = c.requires.lengths_len_bound in
     let inv = c.loop-li.invariant in
     let few = inv.3.few in
     let l = c.loop-li-test.true in
@@ -81,7 +80,7 @@ loop-li-smaller c =
 
 pub loop-li-preserved : goal.loop-li-preserved
 loop-li-preserved c =
-    let room : (c.loop-li.count ≤ 30) × (c.loop-li.count * 4 + 8 ≤ length c.loop-li.added) × (c.loop-li.li < length c.loop-li.kept) = (    let p = c.requires.lengths_len_bound in
+    let room : (c.loop-li.count ≤ 30) × (c.loop-li.count * 4 + 8 ≤ length c.loop-li.added) × (c.loop-li.li < length c.loop-li.kept) = (let p = c.requires.lengths_len_bound in
     let inv = c.loop-li.invariant in
     let few = inv.3.few in
     let l = c.loop-li-test.true in

@@ -1,12 +1,9 @@
 -- `closing_search::finding::find_closures` meets its contract. The invariant: the quads and marks of the first `li` fronts are found. The measure is the fronts left.
-use mathlib.Core.Path.{◌≡◌, refl, ◌∙◌}
-use Prim.Native.Nat.{◌+◌, ◌*◌, ◌-◌, ◌≤◌, ◌<◌}
-use native.Mathlib.Omega.{arith}
-use borrow.Author.Rules.{rules}
-use lib.ListN.{length, length-set}
+use mathlib.Core.Path.{◌≡◌}
+use Prim.Native.Nat.{◌-◌, ◌≤◌}
+use lib.ListN.{length}
 use Rattle.state.specs.State.{cut}
-use Rattle.state.proofs.Cutting.{total_within, part_of_all, part_is, length_cut}
-use Rattle.closing_search.proofs.Gathering.{Found, found_none, found_more, few_quads}
+use Rattle.closing_search.proofs.Gathering.{Found}
 use Rattle.closing_search.proofs.finding.find_closures.Given as goal
 
 abbrev pub invariant-loop-li : goal.invariant-loop-li

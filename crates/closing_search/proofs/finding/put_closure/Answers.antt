@@ -1,7 +1,6 @@
 -- `closing_search::finding::put_closure` meets its contract.
 use Rattle.state.specs.State.{joined}
 use Rattle.closing_search.proofs.Gathering.{two_quads}
-use borrow.Author.Rules.{rules}
 use Rattle.closing_search.proofs.finding.put_closure.Goals as goal
 
 pub returns-in-Kept : goal.returns-in-Kept

@@ -1,6 +1,5 @@
 -- `closing_search::front::beats` meets its contract.
 use borrow.Author.Tests.{eq-eqb, ne_eqb}
-use borrow.Author.Rules.{rules}
 use Rattle.closing_search.proofs.front.beats.Goals as goal
 
 pub returns-then-count_of-eq0 : goal.returns-then-count_of-eq0

@@ -1,6 +1,5 @@
 -- `closing_search::front::close_four` meets its contract.
 use Rattle.closing_search.proofs.Splitting.{four_closed, four_kept}
-use borrow.Author.Rules.{rules}
 use Rattle.closing_search.proofs.front.close_four.Goals as goal
 
 pub returns-then-passes : goal.returns-then-passes

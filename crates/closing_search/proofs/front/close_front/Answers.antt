@@ -1,7 +1,6 @@
 -- `closing_search::front::close_front` meets its contract.
 use borrow.Author.Tests.{eq-eqb, ne_eqb}
 use Rattle.rules.specs.Closing.{closure}
-use borrow.Author.Rules.{rules}
 use Rattle.closing_search.proofs.front.close_front.Goals as goal
 
 pub returns-then-nodes-eq4 : goal.returns-then-nodes-eq4

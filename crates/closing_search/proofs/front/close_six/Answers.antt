@@ -1,9 +1,7 @@
 use mathlib.Core.Path.{◌≡◌, ap}
-use Prim.Native.Nat.{◌≤◌, ◌-◌}
 use native.Mathlib.Omega.{arith}
 use Rattle.geometry.proofs.Literals.{infinity_is}
 use Rattle.rules.specs.Closing.{best_split}
-use Rattle.closing_search.specs.Closures.{split_of}
 use Rattle.closing_search.proofs.front.close_six.Goals as goal
 
 pub loop-i-init : goal.loop-i-init
@@ -12,10 +10,10 @@ loop-i-init c = (omega arith, rw infinity_is)
 
 pub better_split-best-requires : goal.better_split-best-requires
 better_split-best-requires c = record {
-      nodes_len = (c.requires.nodes_len, omega arith);
-      by_index = c.requires.by_index;
-      best_value = c.loop-i.invariant.1;
-    }
+  nodes_len = (c.requires.nodes_len, omega arith);
+  by_index = c.requires.by_index;
+  best_value = c.loop-i.invariant.1;
+}
 
 pub overflow_step-i : goal.overflow_step-i
 overflow_step-i c = omega arith

@@ -1,8 +1,6 @@
 -- `closing_search::front::close_six` meets its contract. The invariant: `best` is the best of the first i splits. The measure is the splits left.
-use mathlib.Core.Path.{◌≡◌, ap}
+use mathlib.Core.Path.{◌≡◌}
 use Prim.Native.Nat.{◌≤◌, ◌-◌}
-use native.Mathlib.Omega.{arith}
-use Rattle.geometry.proofs.Literals.{infinity_is}
 use Rattle.rules.specs.Closing.{best_split}
 use Rattle.closing_search.specs.Closures.{split_of}
 use Rattle.closing_search.proofs.front.close_six.Given as goal

@@ -1,5 +1,4 @@
 -- `closing_search::quads::area_of` meets its contract.
-use borrow.Author.Rules.{rules}
 use Rattle.closing_search.proofs.quads.area_of.Goals as goal
 
 pub returns : goal.returns

@@ -1,5 +1,4 @@
 -- `closing_search::quads::corners_of` meets its contract.
-use borrow.Author.Rules.{rules}
 use Rattle.closing_search.proofs.quads.corners_of.Goals as goal
 
 pub returns : goal.returns

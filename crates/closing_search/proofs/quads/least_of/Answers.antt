@@ -1,6 +1,5 @@
 -- `closing_search::quads::least_of` meets its contract.
 use Rattle.rules.specs.Closing.{least_of}
-use borrow.Author.Rules.{rules}
 use Rattle.closing_search.proofs.quads.least_of.Goals as goal
 
 pub returns : goal.returns

@@ -1,6 +1,5 @@
 -- `closing_search::quads::passes` meets its contract.
 use Rattle.rules.specs.Checks.{quad_passes}
-use borrow.Author.Rules.{rules}
 use Rattle.closing_search.proofs.quads.passes.Goals as goal
 
 pub returns : goal.returns

@@ -1,5 +1,4 @@
 -- `closing_search::quads::quad_on` meets its contract.
-use borrow.Author.Rules.{rules}
 use Rattle.closing_search.proofs.quads.quad_on.Goals as goal
 
 pub turned-requires : goal.turned-requires

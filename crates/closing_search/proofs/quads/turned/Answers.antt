@@ -1,7 +1,6 @@
 -- `closing_search::quads::turned` meets its contract.
 use Rattle.float.proofs.Literals.{zero_is}
 use Rattle.closing_search.proofs.Splitting.{turned_round, unturned}
-use borrow.Author.Rules.{rules}
 use Rattle.closing_search.proofs.quads.turned.Goals as goal
 
 pub returns-then-area_of : goal.returns-then-area_of

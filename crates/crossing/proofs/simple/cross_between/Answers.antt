@@ -1,5 +1,4 @@
 -- `crossing::simple::cross_between` meets its contract.
-use borrow.Author.Rules.{rules}
 use Rattle.crossing.proofs.Right.{not_crossing}
 use Rattle.crossing.proofs.simple.cross_between.Goals as goal
 

@@ -1,7 +1,6 @@
 -- `crossing::simple::crosses_closing` meets its contract.
 use mathlib.Core.Path.{refl, sym}
 use native.Mathlib.Omega.{arith}
-use borrow.Author.Rules.{rules}
 use borrow.Author.Tests.{eq-eqb, ne_eqb}
 use Prim.Native.Nat.{◌+◌, ◌-◌}
 use Rattle.geometry.specs.Rings.{ring_of, next}

@@ -1,7 +1,6 @@
 -- `crossing::simple::is_simple` meets its contract.
 use borrow.Author.Tests.{lt-leb, le-leb}
 use Rattle.rules.specs.Simple.{is_simple}
-use borrow.Author.Rules.{rules}
 use Rattle.crossing.proofs.simple.is_simple.Goals as goal
 
 pub returns-then-n-lt3 : goal.returns-then-n-lt3

@@ -1,11 +1,10 @@
 use mathlib.Core.Path.{◌≡◌, refl, ◌∙◌, sym, ap}
-use mathlib.Core.Bool.{true, false}
-use Prim.Native.Nat.{◌+◌, ◌≤◌, ◌-◌}
+use mathlib.Core.Bool.{false}
+use Prim.Native.Nat.{◌+◌, ◌-◌}
 use native.Mathlib.Omega.{arith}
-use borrow.Author.Rules.{rules}
-use Rattle.geometry.specs.Rings.{Ring, ring_of, point_at, next}
+use Rattle.geometry.specs.Rings.{Ring, ring_of, next}
 use Rattle.rules.specs.Simple.{search as search_of}
-use Rattle.rules.specs.Simple.{search_side, sides_cross}
+use Rattle.rules.specs.Simple.{search_side}
 use Rattle.crossing.specs.Right.{right_of}
 use Rattle.pairs.proofs.Sides.{next_inner}
 use Rattle.crossing.proofs.Searching.{not_neighbours, sides-cross, tested, side_more, side_begun, side_closed, side_done, last_two, found, found_closing, none_yet}

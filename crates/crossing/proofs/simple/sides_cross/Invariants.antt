@@ -1,15 +1,11 @@
 -- `crossing::simple::sides_cross` meets its contract. The invariants: no crossing was found by the definition's search of the sides passed, and of this side with those passed, and the test of the end of the last is kept. The measures are the sides left.
-use mathlib.Core.Path.{◌≡◌, refl, ◌∙◌, sym, ap}
-use mathlib.Core.Bool.{true, false}
+use mathlib.Core.Path.{◌≡◌}
+use mathlib.Core.Bool.{false}
 use Prim.Native.Nat.{◌+◌, ◌≤◌, ◌-◌}
-use native.Mathlib.Omega.{arith}
-use borrow.Author.Rules.{rules}
-use Rattle.geometry.specs.Rings.{Ring, ring_of, point_at, next}
+use Rattle.geometry.specs.Rings.{ring_of, point_at}
 use Rattle.rules.specs.Simple.{search as search_of}
-use Rattle.rules.specs.Simple.{search_side, sides_cross}
+use Rattle.rules.specs.Simple.{search_side}
 use Rattle.crossing.specs.Right.{right_of}
-use Rattle.pairs.proofs.Sides.{next_inner}
-use Rattle.crossing.proofs.Searching.{not_neighbours, sides-cross, tested, side_more, side_begun, side_closed, side_done, last_two, found, found_closing, none_yet}
 use Rattle.crossing.proofs.simple.sides_cross.Given as goal
 
 abbrev pub invariant-loop-j : goal.invariant-loop-j

@@ -7,7 +7,6 @@ use Rattle.input.specs.Job.{job}
 use Rattle.rules.specs.Calls.{job_call}
 use Rattle.exports_counts.specs.Calls.{options_of}
 use Rattle.exports_counts.proofs.Slices.{job_short, job_answered}
-use borrow.Author.Rules.{rules}
 use Rattle.exports.proofs.calls.pave_job.Goals as goal
 
 pub returns-then-counts-ne8 : goal.returns-then-counts-ne8

@@ -1,11 +1,8 @@
 -- `exports_counts::counts::clear_counts` meets its contract. The invariant: so many places are 0 and the others as they were, so the length stays.
-use mathlib.Core.Path.{◌≡◌, ◌∙◌, ap, sym, refl}
+use mathlib.Core.Path.{◌≡◌}
 use mathlib.Core.List.{◌++◌}
 use Prim.Native.Nat.{◌≤◌, ◌-◌}
-use native.Mathlib.Omega.{arith}
-use lib.ListN.{length, drop, replicate, length-set}
-use borrow.Author.Rules.{scaled_Fits}
-use Rattle.state.proofs.Fill.{fill_step, fill_end}
+use lib.ListN.{length, drop, replicate}
 use Rattle.exports_counts.proofs.counts.clear_counts.Given as goal
 
 abbrev pub invariant-loop-count : goal.invariant-loop-count

@@ -1,5 +1,4 @@
 -- `exports_counts::counts::counts_of` meets its contract.
-use borrow.Author.Rules.{rules}
 use Rattle.exports_counts.proofs.counts.counts_of.Goals as goal
 
 pub returns : goal.returns

@@ -1,6 +1,5 @@
 -- `exports_counts::counts::put_answer` meets its contract.
 use mathlib.Core.Path.{refl}
-use borrow.Author.Rules.{rules}
 use Rattle.exports_counts.proofs.counts.put_answer.Goals as goal
 
 pub returns-in-Done : goal.returns-in-Done

@@ -2,7 +2,6 @@
 use native.Mathlib.Omega.{arith}
 use lib.ListN.{length-set}
 use Rattle.state.proofs.Stores.{sets_all}
-use borrow.Author.Rules.{rules}
 use Rattle.exports_counts.proofs.counts.put_counts.Goals as goal
 
 pub bounds-counts-0 : goal.bounds-counts-0

@@ -1,9 +1,5 @@
-use mathlib.Core.Path.{◌≡◌, refl}
-use Prim.Native.Nat.{◌≤◌, ◌-◌}
+use mathlib.Core.Path.{refl}
 use native.Mathlib.Omega.{arith}
-use lib.ListN.{length, drop}
-use borrow.Author.Rules.{rules}
-use Rattle.exports_geometry.specs.Fronts.{all_below}
 use Rattle.exports_geometry.proofs.Nodes.{all_passed, one_failed, one_passed}
 use Rattle.exports_geometry.proofs.fronts.few_below.Goals as goal
 

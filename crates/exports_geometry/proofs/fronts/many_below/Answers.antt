@@ -1,10 +1,5 @@
-use mathlib.Core.Path.{◌≡◌, refl}
-use mathlib.Core.Bool.{◌&&◌}
-use Prim.Native.Nat.{◌≤◌, ◌-◌}
+use mathlib.Core.Path.{refl}
 use native.Mathlib.Omega.{arith}
-use lib.ListN.{length, drop}
-use borrow.Author.Rules.{rules}
-use Rattle.exports_geometry.specs.Fronts.{all_below}
 use Rattle.exports_geometry.proofs.Nodes.{all_tested, one_tested}
 use Rattle.exports_geometry.proofs.fronts.many_below.Goals as goal
 

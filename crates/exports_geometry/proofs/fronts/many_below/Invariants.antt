@@ -1,12 +1,9 @@
 -- `exports_geometry::fronts::many_below` meets its contract. The invariant: what was found, and the numbers ahead, give the answer. The measure is the numbers left.
-use mathlib.Core.Path.{◌≡◌, refl}
+use mathlib.Core.Path.{◌≡◌}
 use mathlib.Core.Bool.{◌&&◌}
 use Prim.Native.Nat.{◌≤◌, ◌-◌}
-use native.Mathlib.Omega.{arith}
 use lib.ListN.{length, drop}
-use borrow.Author.Rules.{rules}
 use Rattle.exports_geometry.specs.Fronts.{all_below}
-use Rattle.exports_geometry.proofs.Nodes.{all_tested, one_tested}
 use Rattle.exports_geometry.proofs.fronts.many_below.Given as goal
 
 abbrev pub invariant-loop-i : goal.invariant-loop-i

@@ -1,6 +1,5 @@
 -- `exports_geometry::fronts::nodes_fit` meets its contract. Where no test is made, every node number is a u16 and so below the number of points.
 use native.Mathlib.Omega.{arith}
-use borrow.Author.Rules.{rules}
 use Rattle.exports_geometry.specs.Fronts.{nodes_fit}
 use Rattle.exports_geometry.proofs.Nodes.{all_small}
 use Rattle.exports_geometry.proofs.fronts.nodes_fit.Goals as goal

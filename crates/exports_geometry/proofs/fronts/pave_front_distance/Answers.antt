@@ -1,5 +1,4 @@
 -- `exports_geometry::fronts::pave_front_distance` meets its contract: the test before the call decides.
-use borrow.Author.Rules.{rules}
 use Rattle.exports_geometry.specs.Fronts.{distance_or}
 use Rattle.exports_geometry.proofs.Choices.{nan_is}
 use Rattle.exports_geometry.proofs.Nodes.{named}

@@ -1,6 +1,5 @@
 -- `exports_geometry::fronts::pave_in_front` meets its contract: the test before the call decides.
 use mathlib.Core.Path.{refl}
-use borrow.Author.Rules.{rules}
 use Rattle.exports_geometry.specs.Fronts.{within_or_not}
 use Rattle.exports_geometry.proofs.Nodes.{named}
 use Rattle.exports_geometry.proofs.fronts.pave_in_front.Goals as goal

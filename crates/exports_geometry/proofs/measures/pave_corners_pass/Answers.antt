@@ -1,5 +1,4 @@
 -- `exports_geometry::measures::pave_corners_pass` meets its contract: the limit is the constant.
-use borrow.Author.Rules.{rules}
 use Rattle.exports_geometry.proofs.measures.pave_corners_pass.Goals as goal
 
 pub returns : goal.returns

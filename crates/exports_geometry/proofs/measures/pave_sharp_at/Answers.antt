@@ -1,6 +1,5 @@
 -- `exports_geometry::measures::pave_sharp_at` meets its contract: the test before the call decides.
 use mathlib.Core.Path.{refl}
-use borrow.Author.Rules.{rules}
 use borrow.Author.Tests.{le-ltb, lt-ltb}
 use Rattle.exports_geometry.specs.Measures.{sharp_or_not}
 use Rattle.exports_geometry.proofs.measures.pave_sharp_at.Goals as goal

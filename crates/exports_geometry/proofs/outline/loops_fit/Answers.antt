@@ -1,11 +1,4 @@
-use mathlib.Core.Path.{◌≡◌}
-use Prim.Native.Nat.{◌≤◌, ◌-◌}
 use native.Mathlib.Omega.{arith}
-use lib.ListN.{length, drop}
-use lib.Dec.{leb}
-use borrow.Author.Rules.{rules}
-use Rattle.geometry.specs.Domain.{sum_of}
-use Rattle.exports_geometry.specs.Outline.{loops_fit}
 use Rattle.exports_geometry.proofs.Loops.{fit_first, fit_one, fit_here, fit_next, fit_end}
 use Rattle.exports_geometry.proofs.outline.loops_fit.Goals as goal
 
@@ -30,11 +23,10 @@ pub loop-k-smaller : goal.loop-k-smaller
 loop-k-smaller c = omega arith
 
 pub loop-k-preserved : goal.loop-k-preserved
-loop-k-preserved c =
- (
-      omega arith,
-      fit_next _ _ _ _ c.loop-k-test.true c.wide-n.ensures _ c.loop-k.invariant.1 c.if-left-n.false,
-    )
+loop-k-preserved c = (
+  omega arith,
+  fit_next _ _ _ _ c.loop-k-test.true c.wide-n.ensures _ c.loop-k.invariant.1 c.if-left-n.false,
+)
 
 pub returns : goal.returns
 returns c = fit_end _ _ _ _ c.loop-k-test.false c.loop-k.invariant.1

@@ -1,13 +1,10 @@
 -- `exports_geometry::outline::loops_fit` meets its contract. The invariant: the loops ahead fit what is left as all loops fit all points. The measure is the loops left.
 use mathlib.Core.Path.{◌≡◌}
 use Prim.Native.Nat.{◌≤◌, ◌-◌}
-use native.Mathlib.Omega.{arith}
 use lib.ListN.{length, drop}
 use lib.Dec.{leb}
-use borrow.Author.Rules.{rules}
 use Rattle.geometry.specs.Domain.{sum_of}
 use Rattle.exports_geometry.specs.Outline.{loops_fit}
-use Rattle.exports_geometry.proofs.Loops.{fit_first, fit_one, fit_here, fit_next, fit_end}
 use Rattle.exports_geometry.proofs.outline.loops_fit.Given as goal
 
 abbrev pub invariant-loop-k : goal.invariant-loop-k

@@ -1,6 +1,5 @@
 -- `exports_geometry::outline::pave_contains` meets its contract: the test before the call decides.
 use mathlib.Core.Path.{refl}
-use borrow.Author.Rules.{rules}
 use Rattle.exports_geometry.specs.Outline.{contains_or_not}
 use Rattle.exports_geometry.proofs.Loops.{room}
 use Rattle.exports_geometry.proofs.outline.pave_contains.Goals as goal

@@ -1,5 +1,4 @@
 -- `exports_geometry::outline::pave_distance_to_boundary` meets its contract: the test before the call decides.
-use borrow.Author.Rules.{rules}
 use Rattle.exports_geometry.specs.Outline.{boundary_or}
 use Rattle.exports_geometry.proofs.Choices.{nan_is}
 use Rattle.exports_geometry.proofs.Loops.{room}

@@ -7,7 +7,6 @@ use Rattle.input.specs.Job.{job}
 use Rattle.rules.specs.RowCall.{row_call}
 use Rattle.exports_counts.specs.Calls.{options_of}
 use Rattle.exports_counts.proofs.Slices.{state_short, state_answered}
-use borrow.Author.Rules.{rules}
 use Rattle.exports_state.proofs.calls.pave_row.Goals as goal
 
 pub returns-then-counts-ne8 : goal.returns-then-counts-ne8

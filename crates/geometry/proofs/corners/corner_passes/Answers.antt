@@ -1,5 +1,4 @@
 use Rattle.geometry.specs.Measures.{corner_passes}
-use borrow.Author.Rules.{rules}
 use Rattle.geometry.proofs.corners.corner_passes.Goals as goal
 
 pub returns-then-is_finite : goal.returns-then-is_finite

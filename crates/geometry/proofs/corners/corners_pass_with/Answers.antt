@@ -1,6 +1,5 @@
 -- `geometry::corners::corners_pass_with` meets its contract. Each length serves the corners at both ends of its side.
 use mathlib.Core.Path.{◌∙◌}
-use borrow.Author.Tests.{not-true, not-false}
 use Rattle.geometry.specs.Measures.{corners_pass}
 use Rattle.geometry.proofs.Flip.{length_flip}
 use Rattle.geometry.proofs.corners.corners_pass_with.Goals as goal

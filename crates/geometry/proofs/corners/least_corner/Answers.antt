@@ -3,7 +3,6 @@ use mathlib.Core.Path.{◌∙◌}
 use Rattle.geometry.specs.Measures.{least_corner}
 use Rattle.geometry.proofs.Literals.{infinity_is}
 use Rattle.geometry.proofs.Flip.{length_flip}
-use borrow.Author.Rules.{rules}
 use Rattle.geometry.proofs.corners.least_corner.Goals as goal
 
 pub corner_value-requires : goal.corner_value-requires

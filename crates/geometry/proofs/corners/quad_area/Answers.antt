@@ -1,7 +1,6 @@
 use Rattle.float.proofs.Literals.{zero_is}
 use Rattle.geometry.proofs.Literals.{two_is}
 use Rattle.geometry.specs.Measures.{quad_area}
-use borrow.Author.Rules.{rules}
 use Rattle.geometry.proofs.corners.quad_area.Goals as goal
 
 pub returns : goal.returns

@@ -6,7 +6,6 @@ use native.Mathlib.Omega.{arith}
 use Rattle.geometry.specs.Rings.{Ring}
 use Rattle.geometry.specs.Domain.{contains}
 use Rattle.geometry.proofs.Outline.{contains_one, held, no_loops, outside, room_first, room_holes}
-use borrow.Author.Rules.{rules}
 use Rattle.geometry.proofs.domain.contains.Goals as goal
 
 one-some : (n : ℕ) → n ≡ 1 → n ≡ 0 → ⊥

@@ -1,13 +1,8 @@
-use mathlib.Core.Path.{◌≡◌, ap, ◌∙◌}
-use mathlib.Core.Bool.{false}
+use mathlib.Core.Path.{ap, ◌∙◌}
 use Prim.Native.Nat.{◌*◌, ◌≤◌}
 use lib.ListN.{length}
-use lib.Ieee.{inf}
 use native.Mathlib.Omega.{arith}
-use borrow.Author.Rules.{rules}
 use Rattle.float.specs.Root.{root}
-use Rattle.geometry.specs.Domain.{rings, sum_of}
-use Rattle.geometry.specs.Squares.{least_from}
 use Rattle.geometry.proofs.Literals.{infinity_is}
 use Rattle.geometry.proofs.Outline.{fewer, least_on, least_over, room_first, room_holes}
 use Rattle.geometry.proofs.Squares.{outline_root}

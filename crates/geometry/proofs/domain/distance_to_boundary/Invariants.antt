@@ -1,17 +1,11 @@
 -- `geometry::domain::distance_to_boundary` meets its contract. The invariant: the rings ahead, from `least` on, give the whole. The measure is the loops left.
-use mathlib.Core.Path.{◌≡◌, ap, ◌∙◌}
+use mathlib.Core.Path.{◌≡◌}
 use mathlib.Core.Bool.{false}
 use Prim.Native.Nat.{◌*◌, ◌≤◌}
 use lib.ListN.{length}
 use lib.Ieee.{inf}
-use native.Mathlib.Omega.{arith}
-use borrow.Author.Rules.{rules}
-use Rattle.float.specs.Root.{root}
 use Rattle.geometry.specs.Domain.{rings, sum_of}
 use Rattle.geometry.specs.Squares.{least_from}
-use Rattle.geometry.proofs.Literals.{infinity_is}
-use Rattle.geometry.proofs.Outline.{fewer, least_on, least_over, room_first, room_holes}
-use Rattle.geometry.proofs.Squares.{outline_root}
 use Rattle.geometry.proofs.domain.distance_to_boundary.Given as goal
 
 abbrev pub invariant-loop-lengths : goal.invariant-loop-lengths

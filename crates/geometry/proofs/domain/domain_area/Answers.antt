@@ -3,7 +3,6 @@ use mathlib.Core.Path.{ap, sym, ◌∙◌}
 use Rattle.float.proofs.Literals.{zero_is}
 use Rattle.geometry.specs.Domain.{domain_area}
 use Rattle.geometry.proofs.Outline.{area_of, area_one, no_loops, room_first, room_holes}
-use borrow.Author.Rules.{rules}
 use Rattle.geometry.proofs.domain.domain_area.Goals as goal
 
 pub returns-then-loops-eq0 : goal.returns-then-loops-eq0

@@ -1,12 +1,7 @@
-use mathlib.Core.Path.{◌≡◌}
 use Prim.Native.Nat.{◌*◌, ◌≤◌}
 use lib.ListN.{length}
-use lib.Ieee.{neg}
 use native.Mathlib.Omega.{arith}
-use borrow.Author.Rules.{rules}
-use Rattle.float.specs.Helpers.{decimal}
 use Rattle.float.proofs.Literals.{zero_is}
-use Rattle.geometry.specs.Domain.{holes_area, rings, sum_of}
 use Rattle.geometry.proofs.Outline.{fewer, holes_on, holes_over, room_first, room_holes}
 use Rattle.geometry.proofs.domain.holes_area.Goals as goal
 

@@ -1,9 +1,7 @@
-use mathlib.Core.Path.{◌≡◌, refl}
+use mathlib.Core.Path.{refl}
 use Prim.Native.Nat.{◌*◌, ◌≤◌}
 use lib.ListN.{length}
 use native.Mathlib.Omega.{arith}
-use borrow.Author.Rules.{rules}
-use Rattle.geometry.specs.Domain.{in_some, rings, sum_of}
 use Rattle.geometry.proofs.Outline.{fewer, room_first, room_holes, some_here, some_later, some_over}
 use Rattle.geometry.proofs.domain.in_some.Goals as goal
 

@@ -1,11 +1,8 @@
 -- `geometry::domain::in_some` meets its contract. The invariant: `p` is in none of the rings passed. The measure is the loops left.
-use mathlib.Core.Path.{◌≡◌, refl}
+use mathlib.Core.Path.{◌≡◌}
 use Prim.Native.Nat.{◌*◌, ◌≤◌}
 use lib.ListN.{length}
-use native.Mathlib.Omega.{arith}
-use borrow.Author.Rules.{rules}
 use Rattle.geometry.specs.Domain.{in_some, rings, sum_of}
-use Rattle.geometry.proofs.Outline.{fewer, room_first, room_holes, some_here, some_later, some_over}
 use Rattle.geometry.proofs.domain.in_some.Given as goal
 
 abbrev pub invariant-loop-lengths : goal.invariant-loop-lengths

@@ -1,5 +1,4 @@
 use Rattle.geometry.proofs.Outline.{whole_rest}
-use borrow.Author.Rules.{rules}
 use Rattle.geometry.proofs.domain.later.Goals as goal
 
 pub returns : goal.returns

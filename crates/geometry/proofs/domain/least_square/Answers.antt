@@ -1,9 +1,5 @@
 use mathlib.Core.Path.{◌≡◌, refl}
-use Prim.Native.Nat.{◌≤◌, ◌-◌}
 use native.Mathlib.Omega.{arith}
-use borrow.Author.Rules.{rules}
-use Rattle.geometry.specs.Rings.{ring_of}
-use Rattle.geometry.specs.Measures.{short_in_domain}
 use Rattle.geometry.specs.Squares.{least_square}
 use Rattle.float.proofs.Literals.{zero_is}
 use Rattle.geometry.proofs.Steps.{square_step}
@@ -26,11 +22,10 @@ pub loop-i-smaller : goal.loop-i-smaller
 loop-i-smaller c = omega arith
 
 pub loop-i-preserved : goal.loop-i-preserved
-loop-i-preserved c =
- (
-      omega arith,
-      square_step _ _ _ _ (record { first = c.point_at-a.ensures; second = rw (← c.next_of-j.ensures.value) c.point_at-b.ensures }) _ _ _ _ _ _ _ zero_is c.loop-i.invariant.1 c.segment_square.ensures c.nearer_of-least.ensures,
-    )
+loop-i-preserved c = (
+  omega arith,
+  square_step _ _ _ _ (record { first = c.point_at-a.ensures; second = rw (← c.next_of-j.ensures.value) c.point_at-b.ensures }) _ _ _ _ _ _ _ zero_is c.loop-i.invariant.1 c.segment_square.ensures c.nearer_of-least.ensures,
+)
 
 pub returns : goal.returns
 returns c =

@@ -1,13 +1,9 @@
 -- `geometry::domain::least_square` meets its contract. The invariant: `least` is the definition's after i sides. The measure is the sides left.
-use mathlib.Core.Path.{◌≡◌, refl}
+use mathlib.Core.Path.{◌≡◌}
 use Prim.Native.Nat.{◌≤◌, ◌-◌}
-use native.Mathlib.Omega.{arith}
-use borrow.Author.Rules.{rules}
 use Rattle.geometry.specs.Rings.{ring_of}
 use Rattle.geometry.specs.Measures.{short_in_domain}
 use Rattle.geometry.specs.Squares.{least_square}
-use Rattle.float.proofs.Literals.{zero_is}
-use Rattle.geometry.proofs.Steps.{square_step}
 use Rattle.geometry.proofs.domain.least_square.Given as goal
 
 abbrev pub invariant-loop-i : goal.invariant-loop-i

@@ -1,6 +1,5 @@
 use Prim.Native.Nat.{◌*◌}
 use Rattle.geometry.proofs.Outline.{whole_rest}
-use borrow.Author.Rules.{rules}
 use Rattle.geometry.proofs.domain.rest.Goals as goal
 
 pub returns : goal.returns

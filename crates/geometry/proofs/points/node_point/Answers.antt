@@ -1,4 +1,3 @@
-use borrow.Author.Rules.{rules}
 use Rattle.geometry.proofs.points.node_point.Goals as goal
 
 pub returns : goal.returns

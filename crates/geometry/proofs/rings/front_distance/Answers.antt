@@ -1,13 +1,7 @@
 use mathlib.Core.Path.{◌≡◌, ap, ◌∙◌}
-use mathlib.Core.Bool.{false}
-use Prim.Native.Nat.{◌≤◌, ◌-◌}
 use lib.ListN.{length}
-use lib.Ieee.{inf}
 use native.Mathlib.Omega.{arith}
-use borrow.Author.Rules.{rules}
 use Rattle.float.specs.Root.{root}
-use Rattle.geometry.specs.Rings.{node_ring}
-use Rattle.geometry.specs.Measures.{short_in_paving}
 use Rattle.geometry.specs.Squares.{least_square}
 use Rattle.geometry.proofs.Literals.{infinity_is, short_is}
 use Rattle.geometry.proofs.Steps.{square_step}
@@ -33,11 +27,10 @@ pub loop-i-smaller : goal.loop-i-smaller
 loop-i-smaller c = omega arith
 
 pub loop-i-preserved : goal.loop-i-preserved
-loop-i-preserved c =
- (
-      omega arith,
-      square_step _ _ _ _ (record { first = c.node_point-a.ensures; second = rw (← c.next_of-j.ensures.value) c.node_point-b.ensures }) _ _ _ _ _ _ _ short_is c.loop-i.invariant.1 c.segment_square.ensures c.nearer_of-best.ensures,
-    )
+loop-i-preserved c = (
+  omega arith,
+  square_step _ _ _ _ (record { first = c.node_point-a.ensures; second = rw (← c.next_of-j.ensures.value) c.node_point-b.ensures }) _ _ _ _ _ _ _ short_is c.loop-i.invariant.1 c.segment_square.ensures c.nearer_of-best.ensures,
+)
 
 pub returns : goal.returns
 returns c =

@@ -1,18 +1,11 @@
 -- `geometry::rings::front_distance` meets its contract. The invariant: `best` is the least square after i sides. The measure is the sides left.
-use mathlib.Core.Path.{◌≡◌, ap, ◌∙◌}
+use mathlib.Core.Path.{◌≡◌}
 use mathlib.Core.Bool.{false}
 use Prim.Native.Nat.{◌≤◌, ◌-◌}
-use lib.ListN.{length}
 use lib.Ieee.{inf}
-use native.Mathlib.Omega.{arith}
-use borrow.Author.Rules.{rules}
-use Rattle.float.specs.Root.{root}
 use Rattle.geometry.specs.Rings.{node_ring}
 use Rattle.geometry.specs.Measures.{short_in_paving}
 use Rattle.geometry.specs.Squares.{least_square}
-use Rattle.geometry.proofs.Literals.{infinity_is, short_is}
-use Rattle.geometry.proofs.Steps.{square_step}
-use Rattle.geometry.proofs.Squares.{front-root}
 use Rattle.geometry.proofs.rings.front_distance.Given as goal
 
 abbrev pub invariant-loop-i : goal.invariant-loop-i

@@ -1,7 +1,4 @@
-use Prim.Native.Nat.{◌≤◌, ◌-◌}
 use native.Mathlib.Omega.{arith}
-use borrow.Author.Rules.{rules}
-use Rattle.geometry.specs.Rings.{node_ring}
 use mathlib.Core.Path.{◌≡◌}
 use lib.ListN.{length}
 use Rattle.float.proofs.Literals.{zero_is}
@@ -28,11 +25,10 @@ pub loop-i-smaller : goal.loop-i-smaller
 loop-i-smaller c = omega arith
 
 pub loop-i-preserved : goal.loop-i-preserved
-loop-i-preserved c =
- (
-      omega arith,
-      length_step _ _ _ _ (record { first = c.node_point-a.ensures; second = rw (← c.next_of-j.ensures.value) c.node_point-b.ensures }) _ _ c.loop-i.invariant.1 c.side_length-sum.ensures,
-    )
+loop-i-preserved c = (
+  omega arith,
+  length_step _ _ _ _ (record { first = c.node_point-a.ensures; second = rw (← c.next_of-j.ensures.value) c.node_point-b.ensures }) _ _ c.loop-i.invariant.1 c.side_length-sum.ensures,
+)
 
 pub returns : goal.returns
 unfolding front_length

@@ -1,13 +1,8 @@
 -- `geometry::rings::front_length` meets its contract. The invariant: `sum` is the definition's after i sides. The measure is the sides left.
 use Prim.Native.Nat.{◌≤◌, ◌-◌}
-use native.Mathlib.Omega.{arith}
-use borrow.Author.Rules.{rules}
 use Rattle.geometry.specs.Rings.{node_ring}
 use mathlib.Core.Path.{◌≡◌}
-use lib.ListN.{length}
-use Rattle.float.proofs.Literals.{zero_is}
-use Rattle.geometry.specs.Measures.{front_length, length_sum}
-use Rattle.geometry.proofs.Steps.{length_step}
+use Rattle.geometry.specs.Measures.{length_sum}
 use Rattle.geometry.proofs.rings.front_length.Given as goal
 
 abbrev pub invariant-loop-i : goal.invariant-loop-i

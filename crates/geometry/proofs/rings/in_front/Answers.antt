@@ -2,9 +2,7 @@ use mathlib.Core.Path.{refl}
 use Prim.Native.Nat.{◌+◌, ◌<◌, ◌-◌}
 use lib.ListN.{length}
 use native.Mathlib.Omega.{arith}
-use borrow.Author.Rules.{rules}
-use Rattle.geometry.specs.Rings.{node_ring}
-use Rattle.geometry.proofs.Steps.{Counted, all_counted, closing-counted, no_sides, one_beside, one_counted, test_at}
+use Rattle.geometry.proofs.Steps.{all_counted, closing-counted, no_sides, one_beside, one_counted, test_at}
 use Rattle.geometry.proofs.rings.in_front.Goals as goal
 
 pub returns-then-n-eq0 : goal.returns-then-n-eq0

@@ -1,11 +1,7 @@
 -- `geometry::rings::in_front` meets its contract. The invariant: `inside` has the closing side and the sides up to place i, whose point `below` tests. The measure is the sides left.
-use mathlib.Core.Path.{refl}
-use Prim.Native.Nat.{◌+◌, ◌<◌, ◌-◌}
-use lib.ListN.{length}
-use native.Mathlib.Omega.{arith}
-use borrow.Author.Rules.{rules}
+use Prim.Native.Nat.{◌-◌}
 use Rattle.geometry.specs.Rings.{node_ring}
-use Rattle.geometry.proofs.Steps.{Counted, all_counted, closing-counted, no_sides, one_beside, one_counted, test_at}
+use Rattle.geometry.proofs.Steps.{Counted}
 use Rattle.geometry.proofs.rings.in_front.Given as goal
 
 abbrev pub invariant-loop-i : goal.invariant-loop-i

@@ -1,9 +1,6 @@
 use mathlib.Core.Path.{refl}
-use Prim.Native.Nat.{◌-◌}
 use native.Mathlib.Omega.{arith}
-use borrow.Author.Rules.{rules}
-use Rattle.geometry.specs.Rings.{ring_of}
-use Rattle.geometry.proofs.Steps.{Counted, all_counted, closing-counted, no_sides, one_beside, one_counted, test_at}
+use Rattle.geometry.proofs.Steps.{all_counted, closing-counted, no_sides, one_beside, one_counted, test_at}
 use Rattle.geometry.proofs.rings.in_polygon.Goals as goal
 
 pub returns-then-n-eq0 : goal.returns-then-n-eq0

@@ -1,10 +1,7 @@
 -- `geometry::rings::in_polygon` meets its contract. The invariant: `inside` has the closing side and the sides up to place i, whose point `below` tests. The measure is the sides left.
-use mathlib.Core.Path.{refl}
 use Prim.Native.Nat.{◌-◌}
-use native.Mathlib.Omega.{arith}
-use borrow.Author.Rules.{rules}
 use Rattle.geometry.specs.Rings.{ring_of}
-use Rattle.geometry.proofs.Steps.{Counted, all_counted, closing-counted, no_sides, one_beside, one_counted, test_at}
+use Rattle.geometry.proofs.Steps.{Counted}
 use Rattle.geometry.proofs.rings.in_polygon.Given as goal
 
 abbrev pub invariant-loop-i : goal.invariant-loop-i

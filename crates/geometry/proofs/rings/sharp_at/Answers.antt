@@ -1,5 +1,4 @@
 use Rattle.geometry.proofs.Steps.{sharp_corner}
-use borrow.Author.Rules.{rules}
 use Rattle.geometry.proofs.rings.sharp_at.Goals as goal
 
 pub returns : goal.returns

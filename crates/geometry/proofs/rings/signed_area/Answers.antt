@@ -1,13 +1,12 @@
 use mathlib.Core.Path.{◌≡◌, refl, sym, ◌∙◌}
-use Prim.Native.Nat.{◌+◌, ◌<◌, ◌≤◌, ◌-◌}
+use Prim.Native.Nat.{◌+◌}
 use lib.Ieee.{binary64, of_bits}
 use native.Mathlib.Omega.{arith}
-use borrow.Author.Rules.{rules}
-use Rattle.geometry.specs.Rings.{Ring, ring_of}
+use Rattle.geometry.specs.Rings.{Ring}
 use Rattle.geometry.specs.Measures.{area_sum, signed_area}
 use Rattle.float.proofs.Literals.{zero_is}
 use Rattle.geometry.proofs.Literals.{half_zero_is, two_is}
-use Rattle.geometry.proofs.Steps.{Added, all_added, none_added, one_added}
+use Rattle.geometry.proofs.Steps.{all_added, none_added, one_added}
 use Rattle.geometry.proofs.rings.signed_area.Goals as goal
 
 no-area : (r : Ring) → r.size ≡ 0 → of_bits binary64 0 ≡ signed_area r

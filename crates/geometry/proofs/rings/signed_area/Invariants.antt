@@ -1,14 +1,7 @@
 -- `geometry::rings::signed_area` meets its contract. The invariant of both loops: the sum has the sides before place i, and `a` is the point before it. The measure is the sides left.
-use mathlib.Core.Path.{◌≡◌, refl, sym, ◌∙◌}
-use Prim.Native.Nat.{◌+◌, ◌<◌, ◌≤◌, ◌-◌}
-use lib.Ieee.{binary64, of_bits}
-use native.Mathlib.Omega.{arith}
-use borrow.Author.Rules.{rules}
-use Rattle.geometry.specs.Rings.{Ring, ring_of}
-use Rattle.geometry.specs.Measures.{area_sum, signed_area}
-use Rattle.float.proofs.Literals.{zero_is}
-use Rattle.geometry.proofs.Literals.{half_zero_is, two_is}
-use Rattle.geometry.proofs.Steps.{Added, all_added, none_added, one_added}
+use Prim.Native.Nat.{◌<◌, ◌≤◌, ◌-◌}
+use Rattle.geometry.specs.Rings.{ring_of}
+use Rattle.geometry.proofs.Steps.{Added}
 use Rattle.geometry.proofs.rings.signed_area.Given as goal
 
 abbrev pub invariant-loop-i : goal.invariant-loop-i

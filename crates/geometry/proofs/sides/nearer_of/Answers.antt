@@ -1,4 +1,3 @@
-
 use Rattle.geometry.proofs.sides.nearer_of.Goals as goal
 
 pub returns-then-d-best : goal.returns-then-d-best

@@ -1,7 +1,6 @@
 use mathlib.Core.Path.{ap, ◌∙◌}
 use Rattle.float.specs.Root.{root}
 use Rattle.geometry.proofs.Squares.{segment_root}
-use borrow.Author.Rules.{rules}
 use Rattle.geometry.proofs.sides.segment_distance.Goals as goal
 
 pub returns : goal.returns

@@ -1,5 +1,4 @@
 use Rattle.geometry.proofs.Choices.{to_end, to_foot}
-use borrow.Author.Rules.{rules}
 use Rattle.geometry.proofs.sides.segment_square.Goals as goal
 
 pub returns-then-length2-short : goal.returns-then-length2-short

@@ -1,5 +1,4 @@
 use Rattle.geometry.proofs.Choices.{both_sides, one_side}
-use borrow.Author.Rules.{rules}
 use Rattle.geometry.proofs.sides.segments_cross.Goals as goal
 
 pub returns-then-far_apart : goal.returns-then-far_apart

@@ -1,5 +1,4 @@
 use Rattle.geometry.specs.Measures.{side_length}
-use borrow.Author.Rules.{rules}
 use Rattle.geometry.proofs.sides.side_length.Goals as goal
 
 pub returns : goal.returns

@@ -1,6 +1,5 @@
 -- `input::input::input_number` meets its contract: its tests are the definition's, in its order.
 use mathlib.Core.Path.{◌∙◌, sym}
-use native.Mathlib.Omega.{arith}
 use native.Mathlib.Nat.{le_of_eq}
 use borrow.Author.Tests.{lt-ltb, le-ltb}
 use Rattle.input.specs.Job.{input_number}
@@ -8,7 +7,6 @@ use Rattle.state.specs.Outcome.{first_true}
 use Rattle.float.proofs.Literals.{zero_is}
 use Rattle.input.proofs.Literals.{million_is}
 use Rattle.input.proofs.Shape.{shaped}
-use borrow.Author.Rules.{rules}
 use Rattle.input.proofs.input.input_number.Goals as goal
 
 pub returns-then-wrong_shape : goal.returns-then-wrong_shape

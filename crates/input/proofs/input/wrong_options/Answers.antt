@@ -7,7 +7,6 @@ use Rattle.state.specs.Coordinates.{outside}
 use Rattle.input.specs.Job.{wrong_options}
 use Rattle.float.proofs.Literals.{zero_is, one_is}
 use Rattle.input.proofs.Literals.{hundred_is, milli_is, million_is, fiftieth_is, nine_tenths_is}
-use borrow.Author.Rules.{rules}
 use Rattle.input.proofs.input.wrong_options.Goals as goal
 
 pub returns-then-outside : goal.returns-then-outside

@@ -2,7 +2,6 @@
 use mathlib.Core.Path.{◌∙◌, sym}
 use borrow.Author.Tests.{eq-eqb, ne_eqb, lt-ltb, le-ltb}
 use Rattle.input.specs.Job.{wrong_shape}
-use borrow.Author.Rules.{rules}
 use Rattle.input.proofs.input.wrong_shape.Goals as goal
 
 pub returns-then-wrong_lengths : goal.returns-then-wrong_lengths

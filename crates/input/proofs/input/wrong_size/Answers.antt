@@ -2,7 +2,6 @@
 use mathlib.Core.Path.{◌∙◌, sym}
 use Rattle.input.specs.Job.{wrong_size}
 use Rattle.float.proofs.Literals.{zero_is}
-use borrow.Author.Rules.{rules}
 use Rattle.input.proofs.input.wrong_size.Goals as goal
 
 pub returns-then-is_finite : goal.returns-then-is_finite

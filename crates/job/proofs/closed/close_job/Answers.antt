@@ -5,7 +5,6 @@ use Rattle.state.specs.State.{Held, Lengths, zeros}
 use Rattle.state.specs.Call.{held, lengths_of}
 use Rattle.sampling.proofs.Calling.{same_lengths}
 use Rattle.job.proofs.Paving.{cleared, state_refused, state_done}
-use borrow.Author.Rules.{rules}
 use Rattle.job.proofs.closed.close_job.Goals as goal
 
 pub returns-in-Refused : goal.returns-in-Refused

@@ -1,13 +1,12 @@
-use mathlib.Core.Path.{◌≡◌, refl, ◌∙◌, ap}
-use Prim.Native.Nat.{ℕ, ◌-◌, ◌≤◌, ◌<◌}
+use mathlib.Core.Path.{refl, ◌∙◌, ap}
+use Prim.Native.Nat.{◌-◌}
 use native.Mathlib.Nat.{not-suc-le-zero}
 use native.Mathlib.Omega.{arith}
-use lib.ListN.{length, length-set}
+use lib.ListN.{length-set}
 use Rattle.geometry.specs.Rings.{node_ring}
 use Rattle.geometry.specs.Measures.{front_length}
-use Rattle.state.specs.Limits.{front_limit}
 use Rattle.state.proofs.Cutting.{total_within, part_of_all, part_is}
-use Rattle.passes.specs.Order.{length_in, length_of}
+use Rattle.passes.specs.Order.{length_of}
 use Rattle.passes.proofs.Inserting.{lengths_more}
 use Rattle.passes.proofs.order.lengths_of.Goals as goal
 

@@ -1,15 +1,9 @@
 -- `passes::order::lengths_of` meets its contract. The invariant: the lengths of the first i fronts are measured. The measure is the fronts left.
-use mathlib.Core.Path.{◌≡◌, refl, ◌∙◌, ap}
+use mathlib.Core.Path.{◌≡◌}
 use Prim.Native.Nat.{ℕ, ◌-◌, ◌≤◌, ◌<◌}
-use native.Mathlib.Nat.{not-suc-le-zero}
-use native.Mathlib.Omega.{arith}
-use lib.ListN.{length, length-set}
-use Rattle.geometry.specs.Rings.{node_ring}
-use Rattle.geometry.specs.Measures.{front_length}
+use lib.ListN.{length}
 use Rattle.state.specs.Limits.{front_limit}
-use Rattle.state.proofs.Cutting.{total_within, part_of_all, part_is}
 use Rattle.passes.specs.Order.{length_in, length_of}
-use Rattle.passes.proofs.Inserting.{lengths_more}
 use Rattle.passes.proofs.order.lengths_of.Given as goal
 
 abbrev pub invariant-loop-i : goal.invariant-loop-i

@@ -1,6 +1,5 @@
 -- `passes::order::pass_order` meets its contract.
 use lib.ListN.{length}
-use borrow.Author.Rules.{rules}
 use Rattle.passes.specs.Order.{length_in, length_of}
 use Rattle.passes.proofs.Inserting.{order_measured}
 use Rattle.passes.proofs.order.pass_order.Goals as goal

@@ -1,8 +1,8 @@
 use mathlib.Core.Path.{◌≡◌, refl}
-use Prim.Native.Nat.{◌-◌, ◌≤◌}
+use Prim.Native.Nat.{◌-◌}
 use native.Mathlib.Omega.{arith}
 use Rattle.passes.specs.Order.{length_in}
-use Rattle.passes.proofs.Inserting.{Passed, passed_more, found_before, found_last}
+use Rattle.passes.proofs.Inserting.{passed_more, found_before, found_last}
 use Rattle.passes.proofs.order.place_of.Goals as goal
 
 pub offset_bounds-lengths-i : goal.offset_bounds-lengths-i
@@ -26,7 +26,7 @@ offset_bounds-lengths-other c =
 
 pub bounds-lengths-other : goal.bounds-lengths-other
 bounds-lengths-other c =
- c.requires.2 c.loop-k.k (omega arith)
+    c.requires.2 c.loop-k.k (omega arith)
 
 pub returns-then-own-lengths : goal.returns-then-own-lengths
 returns-then-own-lengths c =

@@ -1,9 +1,7 @@
 -- `passes::order::place_of` meets its contract. The invariant: front i goes behind the fronts at the places passed. The measure is the places left.
-use mathlib.Core.Path.{◌≡◌, refl}
 use Prim.Native.Nat.{◌-◌, ◌≤◌}
-use native.Mathlib.Omega.{arith}
 use Rattle.passes.specs.Order.{length_in}
-use Rattle.passes.proofs.Inserting.{Passed, passed_more, found_before, found_last}
+use Rattle.passes.proofs.Inserting.{Passed}
 use Rattle.passes.proofs.order.place_of.Given as goal
 
 abbrev pub invariant-loop-k : goal.invariant-loop-k

@@ -1,8 +1,8 @@
-use mathlib.Core.Path.{◌≡◌, refl, ◌∙◌}
-use Prim.Native.Nat.{◌+◌, ◌-◌, ◌≤◌}
+use mathlib.Core.Path.{refl, ◌∙◌}
+use Prim.Native.Nat.{◌-◌}
 use native.Mathlib.Omega.{arith}
-use lib.ListN.{length, length-set}
-use Rattle.passes.proofs.Inserting.{Carried, carried_first, carried_more, carried_last}
+use lib.ListN.{length-set}
+use Rattle.passes.proofs.Inserting.{carried_first, carried_more, carried_last}
 use Rattle.passes.proofs.order.put_in.Goals as goal
 
 pub overflow_add-k-end : goal.overflow_add-k-end

@@ -1,9 +1,8 @@
 -- `passes::order::put_in` meets its contract. The invariant: the places from `at` up to k are written, and the number that stood last is carried. The measure is the places left.
-use mathlib.Core.Path.{◌≡◌, refl, ◌∙◌}
+use mathlib.Core.Path.{◌≡◌}
 use Prim.Native.Nat.{◌+◌, ◌-◌, ◌≤◌}
-use native.Mathlib.Omega.{arith}
-use lib.ListN.{length, length-set}
-use Rattle.passes.proofs.Inserting.{Carried, carried_first, carried_more, carried_last}
+use lib.ListN.{length}
+use Rattle.passes.proofs.Inserting.{Carried}
 use Rattle.passes.proofs.order.put_in.Given as goal
 
 abbrev pub invariant-loop-k : goal.invariant-loop-k

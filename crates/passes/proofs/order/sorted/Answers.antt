@@ -1,8 +1,6 @@
 use mathlib.Core.Path.{◌≡◌, refl, sym, ◌∙◌}
-use Prim.Native.Nat.{◌-◌, ◌≤◌}
+use Prim.Native.Nat.{◌-◌}
 use native.Mathlib.Omega.{arith}
-use lib.ListN.{length, take}
-use Rattle.state.specs.Limits.{front_limit}
 use Rattle.rules.specs.Passes.{ordered}
 use Rattle.passes.specs.Order.{length_in}
 use Rattle.passes.proofs.Inserting.{places_below, places_more}

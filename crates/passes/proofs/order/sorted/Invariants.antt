@@ -1,12 +1,10 @@
 -- `passes::order::sorted` meets its contract. The invariant: the first i fronts are in order in the first i places. The measure is the fronts left.
-use mathlib.Core.Path.{◌≡◌, refl, sym, ◌∙◌}
+use mathlib.Core.Path.{◌≡◌}
 use Prim.Native.Nat.{◌-◌, ◌≤◌}
-use native.Mathlib.Omega.{arith}
 use lib.ListN.{length, take}
 use Rattle.state.specs.Limits.{front_limit}
 use Rattle.rules.specs.Passes.{ordered}
 use Rattle.passes.specs.Order.{length_in}
-use Rattle.passes.proofs.Inserting.{places_below, places_more}
 use Rattle.passes.proofs.order.sorted.Given as goal
 
 abbrev pub invariant-loop-i : goal.invariant-loop-i

@@ -1,6 +1,5 @@
 -- `passes::pass::is_full` meets its contract.
 use mathlib.Core.Path.{sym, ap}
-use borrow.Author.Rules.{rules}
 use Rattle.passes.specs.Passed.{full}
 use Rattle.passes.proofs.pass.is_full.Goals as goal
 

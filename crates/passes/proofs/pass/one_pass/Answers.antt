@@ -11,8 +11,7 @@ use Rattle.state.proofs.Reading.{fits, sound_counted}
 use Rattle.input.specs.Job.{Job, job}
 use Rattle.rules.specs.Passes.{pass_order}
 use Rattle.row.proofs.Stepping.{read_below}
-use Rattle.passes.proofs.Rows.{Rowed, rowed_more, rowed_full, rowed_all, order_read, order_long, order_below, pass_begins, pass_full, pass_done}
-use borrow.Author.Rules.{rules}
+use Rattle.passes.proofs.Rows.{rowed_more, rowed_full, rowed_all, order_read, order_long, order_below, pass_begins, pass_full, pass_done}
 use Rattle.passes.proofs.pass.one_pass.Goals as goal
 
 pub overflow_mul-end : goal.overflow_mul-end
@@ -129,7 +128,7 @@ returns-then-is_full c =
     let job_at : Job = job c.args.coords.now c.args.loop_lengths.now c.args.h c.args.options in
     let order-found : take given.counts.fronts c.pass_order-order.result ≡ pass_order (reading given) = order_read given sound c.pass_order-order.result c.pass_order-order.ensures in
     let held_at : Held = held c.loop-k.points c.loop-k.quads c.loop-k.front_nodes c.loop-k.front_lengths c.loop-k.c in
-    let held_after : Held = (    held c.next_row-answer.new.points c.next_row-answer.new.quads c.next_row-answer.new.front_nodes c.next_row-answer.new.front_lengths c.loop-k.c) in
+    let held_after : Held = (held c.next_row-answer.new.points c.next_row-answer.new.quads c.next_row-answer.new.front_nodes c.next_row-answer.new.front_lengths c.loop-k.c) in
     let b = given in
     let more = c.loop-k-test.true in
     pass_full job_at b c.begun-c.result c.begun-c.ensures c.pass_order-order.result order-found held_after
@@ -148,7 +147,7 @@ loop-k-preserved c =
     let job_at : Job = job c.args.coords.now c.args.loop_lengths.now c.args.h c.args.options in
     let order-found : take given.counts.fronts c.pass_order-order.result ≡ pass_order (reading given) = order_read given sound c.pass_order-order.result c.pass_order-order.ensures in
     let held_at : Held = held c.loop-k.points c.loop-k.quads c.loop-k.front_nodes c.loop-k.front_lengths c.loop-k.c in
-    let held_after : Held = (    held c.next_row-answer.new.points c.next_row-answer.new.quads c.next_row-answer.new.front_nodes c.next_row-answer.new.front_lengths c.loop-k.c) in
+    let held_after : Held = (held c.next_row-answer.new.points c.next_row-answer.new.quads c.next_row-answer.new.front_nodes c.next_row-answer.new.front_lengths c.loop-k.c) in
     let b = given in
     let more = c.loop-k-test.true in
     let l = held_after in

@@ -1,19 +1,8 @@
 -- `passes::pass::one_pass` meets its contract. The invariant: a row was tried on each front before place k of the order, and the buffers are sound and clean. The measure is the fronts left.
-use mathlib.Core.Path.{◌≡◌, sym, ◌∙◌, ap}
 use Prim.Native.Nat.{◌-◌, ◌≤◌}
-use native.Mathlib.Omega.{arith}
-use lib.ListN.{length, take, length-take}
-use lib.Seq.{length-take-le}
-use Rattle.state.specs.Limits.{front_limit}
-use Rattle.state.specs.State.{Held, reading}
 use Rattle.state.specs.Call.{held}
-use Rattle.state.specs.Sound.{Sound, sizes_of}
-use Rattle.state.proofs.Reading.{fits, sound_counted}
-use Rattle.input.specs.Job.{Job, job}
-use Rattle.rules.specs.Passes.{pass_order}
-use Rattle.row.proofs.Stepping.{read_below}
-use Rattle.passes.proofs.Rows.{Rowed, rowed_more, rowed_full, rowed_all, order_read, order_long, order_below, pass_begins, pass_full, pass_done}
-use borrow.Author.Rules.{rules}
+use Rattle.input.specs.Job.{job}
+use Rattle.passes.proofs.Rows.{Rowed}
 use Rattle.passes.proofs.pass.one_pass.Given as goal
 
 abbrev pub invariant-loop-k : goal.invariant-loop-k

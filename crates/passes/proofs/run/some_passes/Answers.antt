@@ -1,11 +1,10 @@
 use mathlib.Core.Path.{refl}
-use Prim.Native.Nat.{◌-◌, ◌≤◌}
+use Prim.Native.Nat.{◌-◌}
 use native.Mathlib.Omega.{arith}
 use Rattle.state.specs.State.{Held}
 use Rattle.state.specs.Call.{held}
 use Rattle.input.specs.Job.{Job, job}
-use Rattle.passes.proofs.Runs.{Ran, ran_none, ran_refused, ran_last, ran_more, ran_all}
-use borrow.Author.Rules.{rules}
+use Rattle.passes.proofs.Runs.{ran_none, ran_refused, ran_last, ran_more, ran_all}
 use Rattle.passes.proofs.run.some_passes.Goals as goal
 
 pub loop-init : goal.loop-init
@@ -53,7 +52,7 @@ returns-in_default c =
     let given : Held = held c.args.points.now c.args.quads.now c.args.front_nodes.now c.args.front_lengths.now c.args.counts in
     let job_at : Job = job c.args.coords.now c.args.loop_lengths.now c.args.h c.args.options in
     let held_at : Held = held c.loop.points c.loop.quads c.loop.front_nodes c.loop.front_lengths c.loop.c in
-    let held_after : Held = (    held c.one_pass-answer.new.points c.one_pass-answer.new.quads c.one_pass-answer.new.front_nodes c.one_pass-answer.new.front_lengths c.loop.c) in
+    let held_after : Held = (held c.one_pass-answer.new.points c.one_pass-answer.new.quads c.one_pass-answer.new.front_nodes c.one_pass-answer.new.front_lengths c.loop.c) in
     let more = c.loop-test.true in
     ran_refused job_at c.args.most given c.loop.counter held_at c.loop.invariant.0 more c.one_pass-answer.result held_after c.one_pass-answer.ensures _ c.in_default.is _
 
@@ -86,7 +85,7 @@ returns-then-after-c c =
     let given : Held = held c.args.points.now c.args.quads.now c.args.front_nodes.now c.args.front_lengths.now c.args.counts in
     let job_at : Job = job c.args.coords.now c.args.loop_lengths.now c.args.h c.args.options in
     let held_at : Held = held c.loop.points c.loop.quads c.loop.front_nodes c.loop.front_lengths c.loop.c in
-    let held_after : Held = (    held c.one_pass-answer.new.points c.one_pass-answer.new.quads c.one_pass-answer.new.front_nodes c.one_pass-answer.new.front_lengths c.loop.c) in
+    let held_after : Held = (held c.one_pass-answer.new.points c.one_pass-answer.new.quads c.one_pass-answer.new.front_nodes c.one_pass-answer.new.front_lengths c.loop.c) in
     let more = c.loop-test.true in
     ran_last job_at c.args.most given c.loop.counter held_at c.loop.invariant.0 more c.one_pass-answer.result held_after c.one_pass-answer.ensures _ c.in-Done.is c.if-after-c.true _ refl
 
@@ -103,7 +102,7 @@ loop-preserved c =
     let given : Held = held c.args.points.now c.args.quads.now c.args.front_nodes.now c.args.front_lengths.now c.args.counts in
     let job_at : Job = job c.args.coords.now c.args.loop_lengths.now c.args.h c.args.options in
     let held_at : Held = held c.loop.points c.loop.quads c.loop.front_nodes c.loop.front_lengths c.loop.c in
-    let held_after : Held = (    held c.one_pass-answer.new.points c.one_pass-answer.new.quads c.one_pass-answer.new.front_nodes c.one_pass-answer.new.front_lengths c.loop.c) in
+    let held_after : Held = (held c.one_pass-answer.new.points c.one_pass-answer.new.quads c.one_pass-answer.new.front_nodes c.one_pass-answer.new.front_lengths c.loop.c) in
     let more = c.loop-test.true in
     (ran_more job_at c.args.most given c.loop.counter held_at c.loop.invariant.0 more c.one_pass-answer.result held_after c.one_pass-answer.ensures _ c.in-Done.is c.if-after-c.false, omega arith)
 

@@ -1,12 +1,8 @@
 -- `passes::run::some_passes` meets its contract. The invariant: what is left of the passes, from the buffers as they are, gives what all give; and the buffers are sound and clean. The measure is the passes left.
-use mathlib.Core.Path.{refl}
 use Prim.Native.Nat.{◌-◌, ◌≤◌}
-use native.Mathlib.Omega.{arith}
-use Rattle.state.specs.State.{Held}
 use Rattle.state.specs.Call.{held}
-use Rattle.input.specs.Job.{Job, job}
-use Rattle.passes.proofs.Runs.{Ran, ran_none, ran_refused, ran_last, ran_more, ran_all}
-use borrow.Author.Rules.{rules}
+use Rattle.input.specs.Job.{job}
+use Rattle.passes.proofs.Runs.{Ran}
 use Rattle.passes.proofs.run.some_passes.Given as goal
 
 abbrev pub invariant-loop : goal.invariant-loop

@@ -1,6 +1,5 @@
 -- `picture::drawing::draw_text` meets its contract.
 use Rattle.picture.proofs.Texts.{short_left, drawn-whole}
-use borrow.Author.Rules.{rules}
 use Rattle.picture.proofs.drawing.draw_text.Goals as goal
 
 pub returns-then-out-lt1638400 : goal.returns-then-out-lt1638400

@@ -54,9 +54,9 @@ slice_bounds-put_job-end-in-Is c =
 
 pub put_job-requires : goal.put_job-requires
 put_job-requires c = record {
-      picture_room_in_bounds = c.requires;
-      few = job_few _ _ _ _ c.read_job.ensures _ _ _ c.in-Is.is;
-    }
+  picture_room_in_bounds = c.requires;
+  few = job_few _ _ _ _ c.read_job.ensures _ _ _ c.in-Is.is;
+}
 
 pub returns-in-Unreadable : goal.returns-in-Unreadable
 returns-in-Unreadable c =
@@ -78,6 +78,6 @@ returns-in-TooMany c =
 
 pub returns-in-Is : goal.returns-in-Is
 returns-in-Is c = record {
-      put = put_same (job-drawn _ _ _ _ c.read_job.ensures _ _ _ c.in-Is.is) c.put_job.ensures.put;
-      upper_bound = c.put_job.ensures.upper_bound;
-    }
+  put = put_same (job-drawn _ _ _ _ c.read_job.ensures _ _ _ c.in-Is.is) c.put_job.ensures.put;
+  upper_bound = c.put_job.ensures.upper_bound;
+}

@@ -32,11 +32,11 @@ returns-then-coords-eq0 c =
 
 pub put_answer-requires : goal.put_answer-requires
 put_answer-requires c = record {
-      picture_room_in_bounds = c.requires.picture_room_in_bounds;
-      few = c.requires.few;
-      sound_answer = answer_sound _ _ _ _ _ _ _ _ _ c.job-answer.ensures
-            (lent-lengths c.job-answer.new.points c.job-answer.new.quads c.job-answer.new.front_nodes c.job-answer.new.front_lengths (answer_counts no_counts c.job-answer.result) (search rules) (search rules) (search rules) (search rules));
-    }
+  picture_room_in_bounds = c.requires.picture_room_in_bounds;
+  few = c.requires.few;
+  sound_answer = answer_sound _ _ _ _ _ _ _ _ _ c.job-answer.ensures
+      (lent-lengths c.job-answer.new.points c.job-answer.new.quads c.job-answer.new.front_nodes c.job-answer.new.front_lengths (answer_counts no_counts c.job-answer.result) (search rules) (search rules) (search rules) (search rules));
+}
 
 pub returns : goal.returns
 returns c =

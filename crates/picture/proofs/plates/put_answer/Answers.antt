@@ -4,7 +4,6 @@ use Rattle.input.specs.Defaults.{defaults}
 use Rattle.answer_text.proofs.Pieces.{done_sound}
 use Rattle.text.proofs.Midst.{put_same}
 use Rattle.picture.proofs.Plating.{done_picture, refused_picture}
-use borrow.Author.Rules.{rules}
 use Rattle.picture.proofs.plates.put_answer.Goals as goal
 
 pub put_plate-requires : goal.put_plate-requires

@@ -1,5 +1,4 @@
 -- `picture::plates::put_done_words` meets its contract.
-use borrow.Author.Rules.{rules}
 use Rattle.picture.proofs.plates.put_done_words.Goals as goal
 
 pub worst-least-requires : goal.worst-least-requires

@@ -7,7 +7,6 @@ use lib.ListN.{length}
 use Rattle.shapes.specs.Shapes.{nodes_text}
 use Rattle.picture.specs.Plates.{dots_text}
 use Rattle.shapes.proofs.Pieces.{Going, start, fits, step, done}
-use borrow.Author.Rules.{rules}
 use native.Mathlib.Omega.{arith}
 use Rattle.picture.proofs.plates.put_dots.Goals as goal
 
@@ -18,7 +17,7 @@ begun out at points laid = start out at (nodes_text 110 points (length points / 
 
 pub put_nodes-first-requires : goal.put_nodes-first-requires
 put_nodes-first-requires c =
- record {
+    record {
       room = fits (begun c.args.out.now c.args.at c.args.points.now c.args.laid) c.requires;
       n_in_bounds = omega arith;
     }

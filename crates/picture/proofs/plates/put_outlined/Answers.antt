@@ -8,7 +8,6 @@ use Rattle.frames.specs.Views.{view_text, size_text, head_text, middle_text, und
 use Rattle.captions.specs.Captions.{refused_caption}
 use Rattle.picture.specs.Plates.{framed_text}
 use Rattle.shapes.proofs.Pieces.{Going, start, fits, step, done}
-use borrow.Author.Rules.{rules}
 use Rattle.fan_search.specs.declared.Box.{Box}
 use Rattle.picture.proofs.plates.put_outlined.Goals as goal
 
@@ -23,7 +22,7 @@ put_head-a1-requires c =
 
 pub put_outline-a2-requires : goal.put_outline-a2-requires
 put_outline-a2-requires c =
- record {
+    record {
       room = fits (step (begun c.args.out.now c.args.b c.args.m c.args.coords.now c.args.loops.now c.args.n) c.put_head-a1.ensures) c.requires.room;
       loops_in_bounds = c.requires.loops_in_bounds;
     }

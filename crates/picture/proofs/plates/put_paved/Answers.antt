@@ -11,7 +11,6 @@ use Rattle.frames.specs.Views.{view_text, size_text, head_text, middle_text, und
 use Rattle.captions.specs.Captions.{done_caption}
 use Rattle.picture.specs.Plates.{shapes_text, framed_text, paved_text}
 use Rattle.shapes.proofs.Pieces.{Going, start, fits, step, done}
-use borrow.Author.Rules.{rules}
 use Rattle.fan_search.specs.declared.Box.{Box}
 use Rattle.state.specs.declared.Counts.{Counts}
 use Rattle.picture.proofs.plates.put_paved.Goals as goal
@@ -27,7 +26,7 @@ put_head-a1-requires c =
 
 pub put_shapes-a2-requires : goal.put_shapes-a2-requires
 put_shapes-a2-requires c =
- record {
+    record {
       room = fits (step (begun c.args.out.now c.args.b c.args.m c.args.coords.now c.args.loops.now c.args.points.now c.args.counts c.args.quads.now c.args.lengths.now c.args.nodes.now) c.put_head-a1.ensures) c.requires.room;
       loops_in_bounds = c.requires.loops_in_bounds;
     }
@@ -38,7 +37,7 @@ put_caption-a3-requires c =
 
 pub put_done_words-a4-requires : goal.put_done_words-a4-requires
 put_done_words-a4-requires c =
- record {
+    record {
       room = fits (step (step (step (begun c.args.out.now c.args.b c.args.m c.args.coords.now c.args.loops.now c.args.points.now c.args.counts c.args.quads.now c.args.lengths.now c.args.nodes.now) c.put_head-a1.ensures) c.put_shapes-a2.ensures) c.put_caption-a3.ensures) c.requires.room;
       quads_in_bounds = c.requires.loops_in_bounds.1;
     }

@@ -8,7 +8,6 @@ use Rattle.fan_search.specs.Values.{boxed}
 use Rattle.picture.proofs.Fitting.{paved_fits}
 use Rattle.text.proofs.Midst.{put_same}
 use Rattle.picture.proofs.Plating.{plated_is}
-use borrow.Author.Rules.{rules}
 use native.Mathlib.Omega.{arith}
 use Rattle.picture.proofs.plates.put_plate.Goals as goal
 

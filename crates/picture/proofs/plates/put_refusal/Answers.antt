@@ -3,7 +3,6 @@ use Rattle.fan_search.specs.Values.{boxed}
 use Rattle.picture.proofs.Fitting.{outlined_fits}
 use Rattle.text.proofs.Midst.{put_same}
 use Rattle.picture.proofs.Plating.{outlined_is}
-use borrow.Author.Rules.{rules}
 use native.Mathlib.Omega.{arith}
 use Rattle.picture.proofs.plates.put_refusal.Goals as goal
 

@@ -7,7 +7,6 @@ use Rattle.input.specs.Limit.{default_limit}
 use Rattle.shapes.specs.Shapes.{tiles_text, outline_text, fronts_text}
 use Rattle.picture.specs.Plates.{dots_text, shapes_text}
 use Rattle.shapes.proofs.Pieces.{Going, start, fits, step, done}
-use borrow.Author.Rules.{rules}
 use Rattle.picture.proofs.plates.put_shapes.Goals as goal
 
 -- the text in its pieces
@@ -17,21 +16,21 @@ begun out at coords loops points n quads lengths nodes laid = start out at (tile
 
 pub put_tiles-a1-requires : goal.put_tiles-a1-requires
 put_tiles-a1-requires c =
- record {
+    record {
       room = rw c.default_limit-limit.ensures (fits (begun c.args.out.now c.args.at c.args.coords.now c.args.loops.now c.args.points.now c.args.n c.args.quads.now c.args.lengths.now c.args.nodes.now c.args.laid) c.requires.room);
       n_in_bounds = c.requires.loops_in_bounds.1;
     }
 
 pub put_outline-a2-requires : goal.put_outline-a2-requires
 put_outline-a2-requires c =
- record {
+    record {
       room = fits (step (begun c.args.out.now c.args.at c.args.coords.now c.args.loops.now c.args.points.now c.args.n c.args.quads.now c.args.lengths.now c.args.nodes.now c.args.laid) (rw c.default_limit-limit.ensures at c.put_tiles-a1.ensures)) c.requires.room;
       loops_in_bounds = c.requires.loops_in_bounds.0;
     }
 
 pub put_fronts-a3-requires : goal.put_fronts-a3-requires
 put_fronts-a3-requires c =
- record {
+    record {
       room = fits (step (step (begun c.args.out.now c.args.at c.args.coords.now c.args.loops.now c.args.points.now c.args.n c.args.quads.now c.args.lengths.now c.args.nodes.now c.args.laid) (rw c.default_limit-limit.ensures at c.put_tiles-a1.ensures)) c.put_outline-a2.ensures) c.requires.room;
       lengths_in_bounds = c.requires.loops_in_bounds.2;
     }

@@ -11,7 +11,6 @@ use Rattle.planning.specs.Plan as plans
 use Rattle.planning.specs.Backwards.{turned_if}
 use Rattle.placing.specs.Placed as laid
 use Rattle.placing.proofs.Numbers.{ten, eight, nine, no_number, over, within_is, parts_are}
-use borrow.Author.Rules.{rules}
 use Rattle.placing.proofs.one_loop.plan_and_place.Goals as goal
 
 pub returns-then-before-planned-gt2048 : goal.returns-then-before-planned-gt2048
@@ -28,7 +27,7 @@ place-placed-requires c =
     let planned-at : ℕ = plans.planned c.args.h c.args.corner_margin turned_ring in
     let sum-at : ℕ = c.args.before + planned-at in
     let planned-found : (let t = c.plan_sides-p.result.total in
-    (t ≡ plans.total c.args.h c.args.corner_margin turned_ring) × (t + t % 2 ≡ planned-at)) = (    within_is c.args.h c.args.corner_margin turned_ring c.args.before _ c.plan_sides-p.ensures.0 c.if-before-planned-gt2048.false) in
+    (t ≡ plans.total c.args.h c.args.corner_margin turned_ring) × (t + t % 2 ≡ planned-at)) = (within_is c.args.h c.args.corner_margin turned_ring c.args.before _ c.plan_sides-p.ensures.0 c.if-before-planned-gt2048.false) in
     let few-planned : sum-at ≤ front_node_limit = omega (arith, planned-found.1, c.if-before-planned-gt2048.false) in
     let plan-sides = c.plan_sides-p in
     let w = planned-found in record {
@@ -46,7 +45,7 @@ returns-then-placed-lt4 c =
     let sum-at : ℕ = c.args.before + planned-at in
     let out_at : List Float = laid.placed c.args.h c.args.corner_margin turned_ring c.args.n in
     let planned-found : (let t = c.plan_sides-p.result.total in
-    (t ≡ plans.total c.args.h c.args.corner_margin turned_ring) × (t + t % 2 ≡ planned-at)) = (    within_is c.args.h c.args.corner_margin turned_ring c.args.before _ c.plan_sides-p.ensures.0 c.if-before-planned-gt2048.false) in
+    (t ≡ plans.total c.args.h c.args.corner_margin turned_ring) × (t + t % 2 ≡ planned-at)) = (within_is c.args.h c.args.corner_margin turned_ring c.args.before _ c.plan_sides-p.ensures.0 c.if-before-planned-gt2048.false) in
     let few-planned : sum-at ≤ front_node_limit = omega (arith, planned-found.1, c.if-before-planned-gt2048.false) in
     eight sum-at (length out_at) out_at c.place-placed.result few-planned c.place-placed.ensures.0 c.if-placed-lt4.true
 
@@ -57,7 +56,7 @@ returns-then-placed-eq1 c =
     let sum-at : ℕ = c.args.before + planned-at in
     let out_at : List Float = laid.placed c.args.h c.args.corner_margin turned_ring c.args.n in
     let planned-found : (let t = c.plan_sides-p.result.total in
-    (t ≡ plans.total c.args.h c.args.corner_margin turned_ring) × (t + t % 2 ≡ planned-at)) = (    within_is c.args.h c.args.corner_margin turned_ring c.args.before _ c.plan_sides-p.ensures.0 c.if-before-planned-gt2048.false) in
+    (t ≡ plans.total c.args.h c.args.corner_margin turned_ring) × (t + t % 2 ≡ planned-at)) = (within_is c.args.h c.args.corner_margin turned_ring c.args.before _ c.plan_sides-p.ensures.0 c.if-before-planned-gt2048.false) in
     let few-planned : sum-at ≤ front_node_limit = omega (arith, planned-found.1, c.if-before-planned-gt2048.false) in
     nine sum-at (length out_at) out_at c.place-placed.result few-planned c.place-placed.ensures.0 c.if-placed-lt4.false c.if-placed-eq1.true
 
@@ -68,7 +67,7 @@ returns c =
     let sum-at : ℕ = c.args.before + planned-at in
     let out_at : List Float = laid.placed c.args.h c.args.corner_margin turned_ring c.args.n in
     let planned-found : (let t = c.plan_sides-p.result.total in
-    (t ≡ plans.total c.args.h c.args.corner_margin turned_ring) × (t + t % 2 ≡ planned-at)) = (    within_is c.args.h c.args.corner_margin turned_ring c.args.before _ c.plan_sides-p.ensures.0 c.if-before-planned-gt2048.false) in
+    (t ≡ plans.total c.args.h c.args.corner_margin turned_ring) × (t + t % 2 ≡ planned-at)) = (within_is c.args.h c.args.corner_margin turned_ring c.args.before _ c.plan_sides-p.ensures.0 c.if-before-planned-gt2048.false) in
     let few-planned : sum-at ≤ front_node_limit = omega (arith, planned-found.1, c.if-before-planned-gt2048.false) in
     let place = c.place-placed in
     let w = planned-found in (

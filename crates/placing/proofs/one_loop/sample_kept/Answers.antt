@@ -1,6 +1,5 @@
 -- `placing::one_loop::sample_kept` meets its contract.
 use Rattle.placing.proofs.Numbers.{seven, of_loop}
-use borrow.Author.Rules.{rules}
 use Rattle.placing.proofs.one_loop.sample_kept.Goals as goal
 
 pub returns-then-size-lt3 : goal.returns-then-size-lt3

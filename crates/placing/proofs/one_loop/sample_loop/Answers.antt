@@ -6,7 +6,6 @@ use lib.ListN.{length}
 use lib.Seq.{length-take-le}
 use Rattle.geometry.specs.Rings.{ring_of}
 use Rattle.state.proofs.Stores.{front_part}
-use borrow.Author.Rules.{rules}
 use Rattle.placing.proofs.one_loop.sample_loop.Goals as goal
 
 pub slice_bounds-sample_kept-end : goal.slice_bounds-sample_kept-end
@@ -15,9 +14,9 @@ slice_bounds-sample_kept-end c =
 
 pub sample_kept-requires : goal.sample_kept-requires
 sample_kept-requires c = record {
-      kept_value = (sym (length-take-le _ _ c.requires.n_bound.0), c.requires.n_bound.1, c.requires.n_bound.3, c.requires.n_bound.4);
-      at_le_before = c.requires.at_le_before;
-    }
+  kept_value = (sym (length-take-le _ _ c.requires.n_bound.0), c.requires.n_bound.1, c.requires.n_bound.3, c.requires.n_bound.4);
+  at_le_before = c.requires.at_le_before;
+}
 
 pub returns-then-all_apart : goal.returns-then-all_apart
 returns-then-all_apart c =

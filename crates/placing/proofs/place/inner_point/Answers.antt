@@ -1,6 +1,5 @@
 -- `placing::place::inner_point` meets its contract.
 use Rattle.placing.proofs.Literals.{half_is}
-use borrow.Author.Rules.{rules}
 use Rattle.placing.proofs.place.inner_point.Goals as goal
 
 pub returns : goal.returns

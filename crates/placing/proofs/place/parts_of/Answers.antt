@@ -2,7 +2,6 @@
 use native.Mathlib.Nat.{add-zero}
 use mathlib.Core.Path.{sym}
 use borrow.Author.Tests.{eq-eqb, ne_eqb}
-use borrow.Author.Rules.{rules}
 use Rattle.placing.proofs.place.parts_of.Goals as goal
 
 pub returns-then-i-longer : goal.returns-then-i-longer

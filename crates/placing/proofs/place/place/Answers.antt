@@ -1,8 +1,7 @@
 use mathlib.Core.Path.{◌≡◌, refl, ◌∙◌}
-use Prim.Native.Nat.{◌≤◌, ◌+◌, ◌-◌, ◌*◌}
+use Prim.Native.Nat.{◌≤◌, ◌+◌}
 use native.Mathlib.Omega.{arith}
 use lib.ListN.{length}
-use lib.Seq.{sets}
 use borrow.Author.Rules.{scaled_Fits}
 use Rattle.geometry.specs.Rings.{Ring, ring_of}
 use Rattle.planning.specs.Plan as plans
@@ -36,9 +35,9 @@ overflow_add-at c =
 pub place_side-more-requires : goal.place_side-more-requires
 place_side-more-requires c =
     let turned_ring : Ring = turned_if c.args.back (ring_of c.args.pts.now c.args.n) in
-    let fits : (    let l = c.loop-i in
+    let fits : (let l = c.loop-i in
     (l.placed + 1 + plans.parts c.args.h c.args.corner_margin turned_ring l.i ≤ plans.planned c.args.h c.args.corner_margin turned_ring)
-    × (laid.placed_on c.args.h c.args.corner_margin turned_ring l.i ≤ plans.parts c.args.h c.args.corner_margin turned_ring l.i)) = (    let l = c.loop-i in
+    × (laid.placed_on c.args.h c.args.corner_margin turned_ring l.i ≤ plans.parts c.args.h c.args.corner_margin turned_ring l.i)) = (let l = c.loop-i in
     (room c.args.h c.args.corner_margin turned_ring l.i l.placed c.loop-i-test.true l.invariant.1, placed_few c.args.h c.args.corner_margin turned_ring l.i)) in
     let more = c.loop-i-test.true in
     let l = c.loop-i in record {
@@ -50,9 +49,9 @@ place_side-more-requires c =
 pub overflow_add-placed : goal.overflow_add-placed
 overflow_add-placed c =
     let turned_ring : Ring = turned_if c.args.back (ring_of c.args.pts.now c.args.n) in
-    let fits : (    let l = c.loop-i in
+    let fits : (let l = c.loop-i in
     (l.placed + 1 + plans.parts c.args.h c.args.corner_margin turned_ring l.i ≤ plans.planned c.args.h c.args.corner_margin turned_ring)
-    × (laid.placed_on c.args.h c.args.corner_margin turned_ring l.i ≤ plans.parts c.args.h c.args.corner_margin turned_ring l.i)) = (    let l = c.loop-i in
+    × (laid.placed_on c.args.h c.args.corner_margin turned_ring l.i ≤ plans.parts c.args.h c.args.corner_margin turned_ring l.i)) = (let l = c.loop-i in
     (room c.args.h c.args.corner_margin turned_ring l.i l.placed c.loop-i-test.true l.invariant.1, placed_few c.args.h c.args.corner_margin turned_ring l.i)) in
     let f = fits in
     omega (arith, f.0, f.1, c.place_side-more.ensures.0, c.requires.n_bound_2.0)
@@ -66,9 +65,9 @@ loop-i-smaller c = omega arith
 pub loop-i-preserved : goal.loop-i-preserved
 loop-i-preserved c =
     let turned_ring : Ring = turned_if c.args.back (ring_of c.args.pts.now c.args.n) in
-    let fits : (    let l = c.loop-i in
+    let fits : (let l = c.loop-i in
     (l.placed + 1 + plans.parts c.args.h c.args.corner_margin turned_ring l.i ≤ plans.planned c.args.h c.args.corner_margin turned_ring)
-    × (laid.placed_on c.args.h c.args.corner_margin turned_ring l.i ≤ plans.parts c.args.h c.args.corner_margin turned_ring l.i)) = (    let l = c.loop-i in
+    × (laid.placed_on c.args.h c.args.corner_margin turned_ring l.i ≤ plans.parts c.args.h c.args.corner_margin turned_ring l.i)) = (let l = c.loop-i in
     (room c.args.h c.args.corner_margin turned_ring l.i l.placed c.loop-i-test.true l.invariant.1, placed_few c.args.h c.args.corner_margin turned_ring l.i)) in
     let place-side = c.place_side-more in
     let l = c.loop-i in

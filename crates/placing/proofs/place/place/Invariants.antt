@@ -1,15 +1,12 @@
 -- `placing::place::place` meets its contract. The invariant: the nodes of the first i sides are written.
-use mathlib.Core.Path.{◌≡◌, refl, ◌∙◌}
-use Prim.Native.Nat.{◌≤◌, ◌+◌, ◌-◌, ◌*◌}
-use native.Mathlib.Omega.{arith}
+use mathlib.Core.Path.{◌≡◌}
+use Prim.Native.Nat.{◌≤◌, ◌-◌, ◌*◌}
 use lib.ListN.{length}
 use lib.Seq.{sets}
-use borrow.Author.Rules.{scaled_Fits}
-use Rattle.geometry.specs.Rings.{Ring, ring_of}
+use Rattle.geometry.specs.Rings.{ring_of}
 use Rattle.planning.specs.Plan as plans
 use Rattle.placing.specs.Placed as laid
 use Rattle.planning.specs.Backwards.{turned_if}
-use Rattle.placing.proofs.Placing.{placed_step, count_step, placed_few, room}
 use Rattle.placing.proofs.place.place.Given as goal
 
 abbrev pub invariant-loop-i : goal.invariant-loop-i

@@ -1,8 +1,5 @@
 use mathlib.Core.Path.{◌≡◌, refl, ◌∙◌}
-use Prim.Native.Nat.{◌≤◌, ◌-◌, ◌*◌}
 use native.Mathlib.Omega.{arith}
-use lib.ListN as lists
-use lib.Seq.{sets}
 use Rattle.placing.specs.Placing.{betweens}
 use Rattle.placing.proofs.Placing.{between_step}
 use Rattle.placing.proofs.place.place_inner.Goals as goal

@@ -1,11 +1,9 @@
 -- `placing::place::place_inner` meets its contract. The invariant: the first j inner points are written.
-use mathlib.Core.Path.{◌≡◌, refl, ◌∙◌}
+use mathlib.Core.Path.{◌≡◌}
 use Prim.Native.Nat.{◌≤◌, ◌-◌, ◌*◌}
-use native.Mathlib.Omega.{arith}
 use lib.ListN as lists
 use lib.Seq.{sets}
 use Rattle.placing.specs.Placing.{betweens}
-use Rattle.placing.proofs.Placing.{between_step}
 use Rattle.placing.proofs.place.place_inner.Given as goal
 
 abbrev pub invariant-loop-j : goal.invariant-loop-j

@@ -8,7 +8,6 @@ use Rattle.planning.specs.Backwards.{turned_if}
 use Rattle.geometry.proofs.Literals.{tiny_is}
 use Rattle.planning.proofs.Planning.{inner_is}
 use Rattle.placing.proofs.Placing.{short_side, bare_side, long_side}
-use borrow.Author.Rules.{rules}
 use Rattle.placing.proofs.place.place_side.Goals as goal
 
 pub ring_point-a-requires : goal.ring_point-a-requires
@@ -26,7 +25,7 @@ pub parts_of-k-requires : goal.parts_of-k-requires
 parts_of-k-requires c =
     let turned_ring : Ring = turned_if c.args.back (ring_of c.args.pts.now c.args.n) in
     let inner-at : ℕ = plans.inner c.args.h c.args.corner_margin turned_ring c.args.i in
-    let inner-found : c.inner_of.result ≡ inner-at = (    inner_is c.args.h c.args.corner_margin turned_ring c.args.i _ _ c.requires.n_bound.3 c.inner_of.ensures) in
+    let inner-found : c.inner_of.result ≡ inner-at = (inner_is c.args.h c.args.corner_margin turned_ring c.args.i _ _ c.requires.n_bound.3 c.inner_of.ensures) in
     omega (arith, inner-found, c.requires.i_value, c.requires.i_bound.0)
 
 pub returns-then-k-eq0 : goal.returns-then-k-eq0
@@ -34,8 +33,8 @@ returns-then-k-eq0 c =
     let turned_ring : Ring = turned_if c.args.back (ring_of c.args.pts.now c.args.n) in
     let inner-at : ℕ = plans.inner c.args.h c.args.corner_margin turned_ring c.args.i in
     let parts_at : ℕ = plans.parts c.args.h c.args.corner_margin turned_ring c.args.i in
-    let inner-found : c.inner_of.result ≡ inner-at = (    inner_is c.args.h c.args.corner_margin turned_ring c.args.i _ _ c.requires.n_bound.3 c.inner_of.ensures) in
-    let parts-found : c.parts_of-k.result ≡ parts_at = (    omega (arith, c.parts_of-k.ensures, inner-found, c.requires.i_value)) in
+    let inner-found : c.inner_of.result ≡ inner-at = (inner_is c.args.h c.args.corner_margin turned_ring c.args.i _ _ c.requires.n_bound.3 c.inner_of.ensures) in
+    let parts-found : c.parts_of-k.result ≡ parts_at = (omega (arith, c.parts_of-k.ensures, inner-found, c.requires.i_value)) in
     bare_side c.args.h c.args.corner_margin turned_ring c.args.i c.args.at _ _ _ c.args.points.now _ c.requires.n_bound.2 (rw tiny_is at c.if-length.false) parts-found c.if-k-eq0.true c.ring_point-a.ensures c.put_point.ensures
 
 pub next_of-j-requires : goal.next_of-j-requires
@@ -57,8 +56,8 @@ place_inner-requires c =
     let turned_ring : Ring = turned_if c.args.back (ring_of c.args.pts.now c.args.n) in
     let inner-at : ℕ = plans.inner c.args.h c.args.corner_margin turned_ring c.args.i in
     let parts_at : ℕ = plans.parts c.args.h c.args.corner_margin turned_ring c.args.i in
-    let inner-found : c.inner_of.result ≡ inner-at = (    inner_is c.args.h c.args.corner_margin turned_ring c.args.i _ _ c.requires.n_bound.3 c.inner_of.ensures) in
-    let parts-found : c.parts_of-k.result ≡ parts_at = (    omega (arith, c.parts_of-k.ensures, inner-found, c.requires.i_value)) in
+    let inner-found : c.inner_of.result ≡ inner-at = (inner_is c.args.h c.args.corner_margin turned_ring c.args.i _ _ c.requires.n_bound.3 c.inner_of.ensures) in
+    let parts-found : c.parts_of-k.result ≡ parts_at = (omega (arith, c.parts_of-k.ensures, inner-found, c.requires.i_value)) in
     let k = parts-found in
     (omega (arith, k, c.requires.i_bound.0), omega (arith, k, c.requires.i_bound.0, c.requires.i_bound.1, c.put_point.auto.pts))
 
@@ -67,8 +66,8 @@ overflow_add-result c =
     let turned_ring : Ring = turned_if c.args.back (ring_of c.args.pts.now c.args.n) in
     let inner-at : ℕ = plans.inner c.args.h c.args.corner_margin turned_ring c.args.i in
     let parts_at : ℕ = plans.parts c.args.h c.args.corner_margin turned_ring c.args.i in
-    let inner-found : c.inner_of.result ≡ inner-at = (    inner_is c.args.h c.args.corner_margin turned_ring c.args.i _ _ c.requires.n_bound.3 c.inner_of.ensures) in
-    let parts-found : c.parts_of-k.result ≡ parts_at = (    omega (arith, c.parts_of-k.ensures, inner-found, c.requires.i_value)) in
+    let inner-found : c.inner_of.result ≡ inner-at = (inner_is c.args.h c.args.corner_margin turned_ring c.args.i _ _ c.requires.n_bound.3 c.inner_of.ensures) in
+    let parts-found : c.parts_of-k.result ≡ parts_at = (omega (arith, c.parts_of-k.ensures, inner-found, c.requires.i_value)) in
     omega (arith, parts-found, c.requires.i_bound.0)
 
 pub returns : goal.returns
@@ -76,6 +75,6 @@ returns c =
     let turned_ring : Ring = turned_if c.args.back (ring_of c.args.pts.now c.args.n) in
     let inner-at : ℕ = plans.inner c.args.h c.args.corner_margin turned_ring c.args.i in
     let parts_at : ℕ = plans.parts c.args.h c.args.corner_margin turned_ring c.args.i in
-    let inner-found : c.inner_of.result ≡ inner-at = (    inner_is c.args.h c.args.corner_margin turned_ring c.args.i _ _ c.requires.n_bound.3 c.inner_of.ensures) in
-    let parts-found : c.parts_of-k.result ≡ parts_at = (    omega (arith, c.parts_of-k.ensures, inner-found, c.requires.i_value)) in
+    let inner-found : c.inner_of.result ≡ inner-at = (inner_is c.args.h c.args.corner_margin turned_ring c.args.i _ _ c.requires.n_bound.3 c.inner_of.ensures) in
+    let parts-found : c.parts_of-k.result ≡ parts_at = (omega (arith, c.parts_of-k.ensures, inner-found, c.requires.i_value)) in
     long_side c.args.h c.args.corner_margin turned_ring c.args.i _ c.args.at _ _ _ _ _ _ c.args.points.now _ _ c.requires.n_bound.2 (rw tiny_is at c.if-length.false) c.next_of-j.ensures.value c.ring_point-a.ensures c.ring_point-b.ensures c.margin_at-margin.ensures c.requires.n_bound.3 parts-found c.put_point.ensures c.place_inner.ensures

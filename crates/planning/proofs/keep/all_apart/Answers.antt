@@ -1,9 +1,6 @@
 use mathlib.Core.Path.{◌≡◌, refl, sym}
 use mathlib.Core.Bool.{true≢false}
-use Prim.Native.Nat.{◌*◌, ◌-◌, ◌≤◌}
 use native.Mathlib.Omega.{arith}
-use lib.ListN.{length}
-use lib.Seq.{sets}
 use Rattle.geometry.specs.Rings.{ring_of}
 use Rattle.planning.specs.Ring as rings
 use Rattle.state.proofs.Stores.{front_part}

@@ -1,14 +1,10 @@
 -- `planning::keep::all_apart` meets its contract. The invariant: the coordinates begin with the points that the definition keeps of the first k, which are all.
-use mathlib.Core.Path.{◌≡◌, refl, sym}
-use mathlib.Core.Bool.{true≢false}
+use mathlib.Core.Path.{◌≡◌}
 use Prim.Native.Nat.{◌*◌, ◌-◌, ◌≤◌}
-use native.Mathlib.Omega.{arith}
 use lib.ListN.{length}
 use lib.Seq.{sets}
 use Rattle.geometry.specs.Rings.{ring_of}
 use Rattle.planning.specs.Ring as rings
-use Rattle.state.proofs.Stores.{front_part}
-use Rattle.planning.proofs.Keeping.{apart_step}
 use Rattle.planning.proofs.keep.all_apart.Given as goal
 
 abbrev pub invariant-loop-k : goal.invariant-loop-k

@@ -1,7 +1,6 @@
 -- `planning::keep::close` meets its contract.
 use mathlib.Core.Path.{◌∙◌, sym}
 use Rattle.planning.specs.Ring.{close}
-use borrow.Author.Rules.{rules}
 use Rattle.planning.proofs.keep.close.Goals as goal
 
 pub returns-then-tiny : goal.returns-then-tiny

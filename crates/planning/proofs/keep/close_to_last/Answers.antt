@@ -1,7 +1,6 @@
 -- `planning::keep::close_to_last` meets its contract.
 use native.Mathlib.Omega.{arith}
 use borrow.Author.Tests.{lt-ltb, le-ltb}
-use borrow.Author.Rules.{rules}
 use Rattle.planning.proofs.keep.close_to_last.Goals as goal
 
 pub returns-then-m-eq0 : goal.returns-then-m-eq0

@@ -1,7 +1,6 @@
 -- `planning::keep::keep_point` meets its contract.
 use mathlib.Core.Path.{refl, ◌∙◌, sym}
 use native.Mathlib.Omega.{arith}
-use borrow.Author.Rules.{rules}
 use Rattle.planning.proofs.keep.keep_point.Goals as goal
 
 pub close_to_last-requires : goal.close_to_last-requires

@@ -1,9 +1,6 @@
 use Rattle.planning.proofs.Keeping.{keep_step}
 use mathlib.Core.Path.{◌≡◌, refl, ◌∙◌}
-use Prim.Native.Nat.{◌≤◌, ◌-◌, ◌*◌}
 use native.Mathlib.Omega.{arith}
-use lib.ListN.{length}
-use lib.Seq.{sets}
 use Rattle.geometry.specs.Rings.{ring_of}
 use Rattle.planning.specs.Ring as rings
 use Rattle.planning.proofs.keep.keep_points.Goals as goal

@@ -1,8 +1,6 @@
 -- `planning::keep::keep_points` meets its contract. The invariant: the buffer begins with the points that the definition keeps of the first k.
-use Rattle.planning.proofs.Keeping.{keep_step}
-use mathlib.Core.Path.{◌≡◌, refl, ◌∙◌}
+use mathlib.Core.Path.{◌≡◌}
 use Prim.Native.Nat.{◌≤◌, ◌-◌, ◌*◌}
-use native.Mathlib.Omega.{arith}
 use lib.ListN.{length}
 use lib.Seq.{sets}
 use Rattle.geometry.specs.Rings.{ring_of}

@@ -1,9 +1,5 @@
-use mathlib.Core.Path.{◌≡◌, refl, ◌∙◌, sym}
-use Prim.Native.Nat.{◌≤◌}
+use mathlib.Core.Path.{refl, ◌∙◌, sym}
 use native.Mathlib.Omega.{arith}
-use borrow.Author.Rules.{rules}
-use borrow.Author.Tests.{not-true, not-false}
-use Rattle.planning.specs.Ring as rings
 use Rattle.planning.proofs.Keeping.{pop_step, pop_none}
 use Rattle.planning.proofs.keep.unclosed.Goals as goal
 

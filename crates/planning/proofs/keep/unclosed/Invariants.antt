@@ -1,11 +1,7 @@
 -- `planning::keep::unclosed` meets its contract. The invariant: the points left give what all give.
-use mathlib.Core.Path.{◌≡◌, refl, ◌∙◌, sym}
+use mathlib.Core.Path.{◌≡◌}
 use Prim.Native.Nat.{◌≤◌}
-use native.Mathlib.Omega.{arith}
-use borrow.Author.Rules.{rules}
-use borrow.Author.Tests.{not-true, not-false}
 use Rattle.planning.specs.Ring as rings
-use Rattle.planning.proofs.Keeping.{pop_step, pop_none}
 use Rattle.planning.proofs.keep.unclosed.Given as goal
 
 abbrev pub invariant-loop-m : goal.invariant-loop-m

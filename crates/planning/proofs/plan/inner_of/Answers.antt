@@ -3,7 +3,6 @@ use mathlib.Core.Path.{◌≡◌}
 use Prim.Native.Nat.{ℕ, ◌<◌, ◌≤◌, max}
 use native.Mathlib.Omega.{arith}
 use Rattle.planning.proofs.Literals.{small_is}
-use borrow.Author.Rules.{rules}
 use Rattle.planning.proofs.plan.inner_of.Goals as goal
 
 one : (k : ℕ) → k < 1 → 1 ≡ max 1 k

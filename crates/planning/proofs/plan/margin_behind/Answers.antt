@@ -1,6 +1,5 @@
 -- `planning::plan::margin_behind` meets its contract.
 use borrow.Author.Tests.{eq-eqb, ne_eqb}
-use borrow.Author.Rules.{rules}
 use Rattle.planning.proofs.plan.margin_behind.Goals as goal
 
 pub returns-then-j-eq0 : goal.returns-then-j-eq0

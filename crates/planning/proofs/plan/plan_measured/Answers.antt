@@ -1,14 +1,12 @@
 use mathlib.Core.Path.{◌≡◌, refl, ap}
-use Prim.Native.Nat.{ℕ, ◌+◌, ◌-◌, ◌≤◌, ◌<◌}
+use Prim.Native.Nat.{ℕ, ◌+◌, ◌<◌}
 use native.Mathlib.Omega.{arith}
-use lib.Ieee.{Float, nan, neg}
+use lib.Ieee.{nan, neg}
 use lib.ListN.{length, get_or, length-set}
-use borrow.Author.Rules.{rules, scaled_Fits}
-use Rattle.geometry.specs.Rings.{Ring}
-use Rattle.planning.specs.Measured.{Measured}
+use borrow.Author.Rules.{scaled_Fits}
 use Rattle.float.proofs.Literals.{one_is}
 use Rattle.state.proofs.Stores.{table_rest}
-use Rattle.planning.proofs.Planning.{Sofar, at_first, one_side}
+use Rattle.planning.proofs.Planning.{at_first, one_side}
 use Rattle.planning.proofs.plan.plan_measured.Goals as goal
 
 pub bounds-spans-0 : goal.bounds-spans-0

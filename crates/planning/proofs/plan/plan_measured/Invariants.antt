@@ -1,15 +1,11 @@
 -- `planning::plan::plan_measured` meets its contract. The invariant: the first i sides are planned, and the margins of the corners from place i on stand in the spans.
-use mathlib.Core.Path.{◌≡◌, refl, ap}
-use Prim.Native.Nat.{ℕ, ◌+◌, ◌-◌, ◌≤◌, ◌<◌}
-use native.Mathlib.Omega.{arith}
-use lib.Ieee.{Float, nan, neg}
-use lib.ListN.{length, get_or, length-set}
-use borrow.Author.Rules.{rules, scaled_Fits}
+use mathlib.Core.Path.{◌≡◌}
+use Prim.Native.Nat.{ℕ, ◌-◌, ◌≤◌, ◌<◌}
+use lib.Ieee.{Float, nan}
+use lib.ListN.{length, get_or}
 use Rattle.geometry.specs.Rings.{Ring}
 use Rattle.planning.specs.Measured.{Measured}
-use Rattle.float.proofs.Literals.{one_is}
-use Rattle.state.proofs.Stores.{table_rest}
-use Rattle.planning.proofs.Planning.{Sofar, at_first, one_side}
+use Rattle.planning.proofs.Planning.{Sofar}
 use Rattle.planning.proofs.plan.plan_measured.Given as goal
 
 abbrev pub invariant-loop-i : goal.invariant-loop-i

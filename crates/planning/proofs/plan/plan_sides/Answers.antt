@@ -1,5 +1,4 @@
 -- `planning::plan::plan_sides` meets its contract.
-use borrow.Author.Rules.{rules}
 use Rattle.planning.proofs.plan.plan_sides.Goals as goal
 
 pub returns : goal.returns

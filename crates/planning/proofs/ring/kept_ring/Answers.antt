@@ -1,6 +1,5 @@
 -- `planning::ring::kept_ring` meets its contract.
 use Rattle.planning.proofs.Turning.{ring_found}
-use borrow.Author.Rules.{rules}
 use Rattle.planning.proofs.ring.kept_ring.Goals as goal
 
 pub returns : goal.returns

@@ -1,5 +1,4 @@
 -- `planning::ring::ring_point` meets its contract.
-use borrow.Author.Rules.{rules}
 use Rattle.planning.proofs.ring.ring_point.Goals as goal
 
 pub returns-then-back : goal.returns-then-back

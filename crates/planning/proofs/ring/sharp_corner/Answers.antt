@@ -1,6 +1,5 @@
 -- `planning::ring::sharp_corner` meets its contract.
 use Rattle.planning.proofs.Turning.{sharp_step}
-use borrow.Author.Rules.{rules}
 use Rattle.planning.proofs.ring.sharp_corner.Goals as goal
 
 pub returns : goal.returns

@@ -2,7 +2,6 @@
 use mathlib.Core.Path.{◌≡◌, refl}
 use mathlib.Core.Bool.{Bool, true, false, not, beq}
 use Rattle.float.proofs.Literals.{zero_is}
-use borrow.Author.Rules.{rules}
 use Rattle.planning.proofs.ring.turns.Goals as goal
 
 positive : (b : Bool) → not b ≡ not (beq true b)

@@ -1,6 +1,5 @@
 -- `planning::sides::margin_at` meets its contract.
 use Rattle.planning.proofs.Measuring.{margin_is}
-use borrow.Author.Rules.{rules}
 use Rattle.planning.proofs.sides.margin_at.Goals as goal
 
 pub returns : goal.returns

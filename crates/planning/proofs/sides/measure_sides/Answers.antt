@@ -3,7 +3,6 @@ use mathlib.Core.Path.{refl}
 use Rattle.geometry.specs.Rings.{ring_of}
 use Rattle.planning.specs.Backwards.{turned_if}
 use Rattle.planning.proofs.Measuring.{length_is}
-use borrow.Author.Rules.{rules}
 use Rattle.planning.proofs.sides.measure_sides.Goals as goal
 
 pub returns : goal.returns

@@ -1,17 +1,16 @@
 use mathlib.Core.Path.{◌≡◌, refl}
-use Prim.Native.Nat.{ℕ, ◌-◌, ◌≤◌, ◌<◌}
+use Prim.Native.Nat.{ℕ, ◌<◌}
 use native.Mathlib.Nat.{not-suc-le-zero}
 use native.Mathlib.Omega.{arith}
 use lib.Ieee.{nan}
-use lib.ListN.{length, get_or, length-set}
-use borrow.Author.Rules.{rules, scaled_Fits}
-use Rattle.geometry.specs.Rings.{ring_of, prev}
-use Rattle.geometry.specs.Measures.{toward}
+use lib.ListN.{length, length-set}
+use borrow.Author.Rules.{scaled_Fits}
+use Rattle.geometry.specs.Rings.{ring_of}
 use Rattle.planning.specs.Plan as plans
 use Rattle.planning.specs.Backwards.{turned_if}
 use Rattle.planning.specs.Side.{along, square}
 use Rattle.state.proofs.Stores.{table_step}
-use Rattle.planning.proofs.Measuring.{corner, here, first_side, margin_is, square_is, sharp_is, next_side}
+use Rattle.planning.proofs.Measuring.{here, first_side, margin_is, square_is, sharp_is, next_side}
 use Rattle.planning.proofs.sides.square_sides.Goals as goal
 
 pub ring_point-b-requires : goal.ring_point-b-requires
@@ -26,16 +25,15 @@ ring_point-requires c =
     (c.requires.0, omega arith)
 
 pub loop-i-init : goal.loop-i-init
-loop-i-init c =
- (
-      omega arith,
-      refl,
-      refl,
-      rw (here c.args.n 0 c.requires.1) c.ring_point-b.ensures,
-      first_side (turned_if c.args.back (ring_of c.args.pts.now c.args.n)) _ _ _ c.requires.1 c.ring_point-b.ensures c.ring_point.ensures c.toward-d.ensures,
-      λ k q. absurd (not-suc-le-zero q),
-      λ k q. absurd (not-suc-le-zero q),
-    )
+loop-i-init c = (
+  omega arith,
+  refl,
+  refl,
+  rw (here c.args.n 0 c.requires.1) c.ring_point-b.ensures,
+  first_side (turned_if c.args.back (ring_of c.args.pts.now c.args.n)) _ _ _ c.requires.1 c.ring_point-b.ensures c.ring_point.ensures c.toward-d.ensures,
+  λ k q. absurd (not-suc-le-zero q),
+  λ k q. absurd (not-suc-le-zero q),
+)
 
 pub next_of-requires : goal.next_of-requires
 next_of-requires c = omega arith

@@ -1,18 +1,14 @@
 -- `planning::sides::square_sides` meets its contract. The invariant: the first i sides and corners are written, and the next corner and the vector to it are at hand.
-use mathlib.Core.Path.{◌≡◌, refl}
+use mathlib.Core.Path.{◌≡◌}
 use Prim.Native.Nat.{ℕ, ◌-◌, ◌≤◌, ◌<◌}
-use native.Mathlib.Nat.{not-suc-le-zero}
-use native.Mathlib.Omega.{arith}
 use lib.Ieee.{nan}
-use lib.ListN.{length, get_or, length-set}
-use borrow.Author.Rules.{rules, scaled_Fits}
+use lib.ListN.{length, get_or}
 use Rattle.geometry.specs.Rings.{ring_of, prev}
 use Rattle.geometry.specs.Measures.{toward}
 use Rattle.planning.specs.Plan as plans
 use Rattle.planning.specs.Backwards.{turned_if}
 use Rattle.planning.specs.Side.{along, square}
-use Rattle.state.proofs.Stores.{table_step}
-use Rattle.planning.proofs.Measuring.{corner, here, first_side, margin_is, square_is, sharp_is, next_side}
+use Rattle.planning.proofs.Measuring.{corner}
 use Rattle.planning.proofs.sides.square_sides.Given as goal
 
 abbrev pub invariant-loop-i : goal.invariant-loop-i

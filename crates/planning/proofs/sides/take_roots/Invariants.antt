@@ -1,13 +1,9 @@
 -- `planning::sides::take_roots` meets its contract. The invariant: the first i are roots and the others as they were.
-use mathlib.Core.Path.{◌≡◌, refl, ◌∙◌, ap}
+use mathlib.Core.Path.{◌≡◌}
 use Prim.Native.Nat.{ℕ, ◌-◌, ◌<◌, ◌≤◌}
-use native.Mathlib.Nat.{not-suc-le-zero, le_refl}
-use native.Mathlib.Omega.{arith}
 use lib.Ieee.{nan}
-use lib.ListN.{length, get_or, length-set}
-use borrow.Author.Rules.{rules, scaled_Fits}
+use lib.ListN.{length, get_or}
 use Rattle.float.specs.Root.{root}
-use Rattle.state.proofs.Stores.{table_step, table_rest}
 use Rattle.planning.proofs.sides.take_roots.Given as goal
 
 abbrev pub invariant-loop-i : goal.invariant-loop-i

@@ -1,5 +1,4 @@
 -- `row::call::next_row` meets its contract.
-use borrow.Author.Rules.{rules}
 use Rattle.row.proofs.call.next_row.Goals as goal
 
 pub row_on-requires : goal.row_on-requires

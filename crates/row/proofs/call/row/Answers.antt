@@ -11,7 +11,6 @@ use Rattle.input.specs.Job.{Job, job, input_number}
 use Rattle.input.proofs.Shape.{right_lengths_lem, outline_read}
 use Rattle.rules.specs.RowCall.{row_at, row_call}
 use Rattle.row.proofs.Stepping.{no_front, a_front}
-use borrow.Author.Rules.{rules}
 use Rattle.row.proofs.call.row.Goals as goal
 
 pub returns-then-input-ne0 : goal.returns-then-input-ne0
@@ -57,7 +56,7 @@ row_on-requires c =
     let number : c.input_number-input.result ≡ input_number job_at (lengths given) = c.input_number-input.ensures in
     let right : lengths given ≡ lengths_of points_length quads_length front_node_limit front_limit = right_lengths_lem job_at given _ number c.if-input-ne0.false in
     let sound-at : Sound given = sound given right (sym c.wrong_state.ensures ∙ c.if-wrong_state.false) in
- record {
+    record {
       sound = sound-at;
       clean = (λ h. absurd (true≢false (sym h)));
       li_lt_fronts = (c.if-counts-li.false, outline_read job_at given _ number c.if-input-ne0.false);

@@ -15,7 +15,6 @@ use Rattle.state.proofs.Reading.{sizes_long, fits, points_long_lem, sound_counte
 use Rattle.state.proofs.Zeros.{same_state, still_sound, now_clean}
 use Rattle.input.specs.Job.{Job, job}
 use Rattle.row.proofs.Stepping.{read_below, refuses, lays, row_read, has_room, same_room}
-use borrow.Author.Rules.{rules}
 use Rattle.row.proofs.step.row_in.Goals as goal
 
 pub overflow_mul-end : goal.overflow_mul-end
@@ -93,7 +92,7 @@ pub clear_behind-requires : goal.clear_behind-requires
 clear_behind-requires c =
     let given : Held = held c.args.points.now c.args.quads.now c.args.front_nodes.now c.args.front_lengths.now c.args.counts in
     let sound : Sound given = c.requires.sound in
- record {
+    record {
       sound = c.requires.sound;
       clean = c.requires.clean;
     }

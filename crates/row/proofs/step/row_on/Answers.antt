@@ -8,7 +8,6 @@ use Rattle.state.specs.Call.{held}
 use Rattle.state.specs.Sound.{Sound, sizes_of}
 use Rattle.state.proofs.Cutting.{total_within}
 use Rattle.state.proofs.Reading.{sizes_long, sound_counted}
-use borrow.Author.Rules.{rules}
 use Rattle.row.proofs.step.row_on.Goals as goal
 
 pub bounds-front_lengths-li : goal.bounds-front_lengths-li

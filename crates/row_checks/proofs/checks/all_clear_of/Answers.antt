@@ -1,13 +1,10 @@
-use mathlib.Core.Path.{◌≡◌}
-use mathlib.Core.Bool.{true, false, not}
-use Prim.Native.Nat.{◌≤◌, ◌-◌}
+use mathlib.Core.Bool.{true, false}
+use Prim.Native.Nat.{◌-◌}
 use native.Mathlib.Omega.{arith}
-use borrow.Author.Rules.{rules}
-use lib.Ieee.{inf, lt}
+use lib.Ieee.{inf}
 use lib.ListN.{length}
-use Rattle.rules.specs.Checks.{every}
 use Rattle.geometry.specs.declared.Point.{Point}
-use Rattle.geometry.specs.Rings.{point_at, node_ring}
+use Rattle.geometry.specs.Rings.{node_ring}
 use Rattle.geometry.specs.Measures.{ring_distance}
 use Rattle.rules.proofs.Every.{every_none, every_more, every_stops, every_end, moved, too_near, far_enough}
 use Rattle.row_checks.proofs.checks.all_clear_of.Goals as goal

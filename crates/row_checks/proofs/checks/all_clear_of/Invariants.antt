@@ -2,15 +2,11 @@
 use mathlib.Core.Path.{◌≡◌}
 use mathlib.Core.Bool.{true, false, not}
 use Prim.Native.Nat.{◌≤◌, ◌-◌}
-use native.Mathlib.Omega.{arith}
-use borrow.Author.Rules.{rules}
 use lib.Ieee.{inf, lt}
 use lib.ListN.{length}
 use Rattle.rules.specs.Checks.{every}
-use Rattle.geometry.specs.declared.Point.{Point}
 use Rattle.geometry.specs.Rings.{point_at, node_ring}
 use Rattle.geometry.specs.Measures.{ring_distance}
-use Rattle.rules.proofs.Every.{every_none, every_more, every_stops, every_end, moved, too_near, far_enough}
 use Rattle.row_checks.proofs.checks.all_clear_of.Given as goal
 
 abbrev pub invariant-loop-i : goal.invariant-loop-i

@@ -2,12 +2,9 @@
 use mathlib.Core.Path.{◌≡◌}
 use mathlib.Core.Bool.{true}
 use Prim.Native.Nat.{◌≤◌, ◌-◌}
-use native.Mathlib.Omega.{arith}
-use borrow.Author.Tests.{not-true, not-false}
 use Rattle.geometry.specs.Rings.{point_at}
 use Rattle.geometry.specs.Domain.{contains, rings}
 use Rattle.rules.specs.Checks.{every}
-use Rattle.rules.proofs.Every.{every_none, every_more, every_stops, every_end, seen}
 use Rattle.row_checks.proofs.checks.all_inside.Given as goal
 
 abbrev pub invariant-loop-i : goal.invariant-loop-i

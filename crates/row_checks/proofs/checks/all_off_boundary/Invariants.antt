@@ -2,12 +2,10 @@
 use mathlib.Core.Path.{◌≡◌}
 use mathlib.Core.Bool.{true, not}
 use Prim.Native.Nat.{◌≤◌, ◌-◌}
-use native.Mathlib.Omega.{arith}
 use lib.Ieee.{lt}
 use Rattle.rules.specs.Checks.{every}
 use Rattle.geometry.specs.Rings.{point_at}
 use Rattle.geometry.specs.Domain.{distance_to_boundary, rings}
-use Rattle.rules.proofs.Every.{every_none, every_more, every_stops, every_end, moved, too_near, far_enough}
 use Rattle.row_checks.proofs.checks.all_off_boundary.Given as goal
 
 abbrev pub invariant-loop-i : goal.invariant-loop-i

@@ -1,14 +1,8 @@
-use mathlib.Core.Path.{◌≡◌}
-use mathlib.Core.Bool.{Bool, true, false}
-use Prim.Native.Nat.{ℕ, ◌≤◌, ◌-◌}
+use mathlib.Core.Bool.{true, false}
+use Prim.Native.Nat.{◌-◌}
 use native.Mathlib.Omega.{arith}
-use borrow.Author.Rules.{rules}
-use borrow.Author.Tests.{not-true, not-false}
-use lib.ListN.{length}
-use Rattle.geometry.specs.Rings.{next, node_ring}
-use Rattle.geometry.specs.Measures.{short_in_paving}
+use Rattle.geometry.specs.Rings.{node_ring}
 use Rattle.geometry.proofs.Literals.{short_is}
-use Rattle.rules.specs.Checks.{every}
 use Rattle.rules.proofs.Every.{every_none, every_more, every_stops, every_end}
 use Rattle.row_checks.specs.Far.{far_side}
 use Rattle.row_checks.proofs.FarClear.{one_side}

@@ -1,18 +1,12 @@
 -- `row_checks::far::all_far` meets its contract. The invariant: the sides passed are far. The measure is the sides left.
 use mathlib.Core.Path.{◌≡◌}
-use mathlib.Core.Bool.{Bool, true, false}
-use Prim.Native.Nat.{ℕ, ◌≤◌, ◌-◌}
-use native.Mathlib.Omega.{arith}
-use borrow.Author.Rules.{rules}
-use borrow.Author.Tests.{not-true, not-false}
+use mathlib.Core.Bool.{true}
+use Prim.Native.Nat.{◌≤◌, ◌-◌}
 use lib.ListN.{length}
 use Rattle.geometry.specs.Rings.{next, node_ring}
 use Rattle.geometry.specs.Measures.{short_in_paving}
-use Rattle.geometry.proofs.Literals.{short_is}
 use Rattle.rules.specs.Checks.{every}
-use Rattle.rules.proofs.Every.{every_none, every_more, every_stops, every_end}
 use Rattle.row_checks.specs.Far.{far_side}
-use Rattle.row_checks.proofs.FarClear.{one_side}
 use Rattle.row_checks.proofs.far.all_far.Given as goal
 
 abbrev pub invariant-loop-i : goal.invariant-loop-i

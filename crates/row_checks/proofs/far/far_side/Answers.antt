@@ -1,13 +1,8 @@
-use mathlib.Core.Path.{◌≡◌, sym}
-use Prim.Native.Nat.{◌≤◌, ◌-◌}
+use mathlib.Core.Path.{sym}
+use Prim.Native.Nat.{◌-◌}
 use native.Mathlib.Omega.{arith}
-use borrow.Author.Rules.{rules}
-use lib.Ieee.{le}
-use Rattle.geometry.specs.declared.Point.{Point}
-use Rattle.geometry.specs.Rings.{point_at}
-use Rattle.rules.specs.Checks.{every}
 use Rattle.rules.proofs.Every.{every_none, every-next}
-use Rattle.row_checks.proofs.FarClear.{foot_square, foot_of, short_side, all_feet}
+use Rattle.row_checks.proofs.FarClear.{foot_of, short_side, all_feet}
 use Rattle.row_checks.proofs.far.far_side.Goals as goal
 
 pub returns-then-length2-short : goal.returns-then-length2-short

@@ -1,14 +1,10 @@
 -- `row_checks::far::far_side` meets its contract. The invariant: what was found of the points passed. The measure is the points left.
-use mathlib.Core.Path.{◌≡◌, sym}
+use mathlib.Core.Path.{◌≡◌}
 use Prim.Native.Nat.{◌≤◌, ◌-◌}
-use native.Mathlib.Omega.{arith}
-use borrow.Author.Rules.{rules}
 use lib.Ieee.{le}
-use Rattle.geometry.specs.declared.Point.{Point}
 use Rattle.geometry.specs.Rings.{point_at}
 use Rattle.rules.specs.Checks.{every}
-use Rattle.rules.proofs.Every.{every_none, every-next}
-use Rattle.row_checks.proofs.FarClear.{foot_square, foot_of, short_side, all_feet}
+use Rattle.row_checks.proofs.FarClear.{foot_square}
 use Rattle.row_checks.proofs.far.far_side.Given as goal
 
 abbrev pub invariant-loop-i : goal.invariant-loop-i

@@ -1,5 +1,4 @@
 -- `row_checks::far::is_bound` meets its contract.
-use borrow.Author.Rules.{rules}
 use Rattle.float.proofs.Literals.{zero_is}
 use Rattle.row_checks.proofs.far.is_bound.Goals as goal
 

@@ -1,15 +1,13 @@
 use mathlib.Core.Path.{◌≡◌, refl, ◌∙◌, ap, sym}
 use mathlib.Core.Bool.{Bool, true, false, ◌||◌}
 use mathlib.Core.List.{List, []}
-use Prim.Native.Nat.{ℕ, ◌+◌, ◌≤◌, ◌-◌}
+use Prim.Native.Nat.{ℕ, ◌+◌, ◌-◌}
 use native.Mathlib.Omega.{arith}
-use borrow.Author.Rules.{rules}
-use borrow.Author.Tests.{not-true, not-false}
 use lib.Dec.{eqb}
-use lib.ListN.{length, take, get_or}
+use lib.ListN.{length, get_or}
 use Rattle.geometry.specs.Domain.{sum_of}
 use Rattle.state.specs.State.{cut}
-use Rattle.rules.specs.Checks.{every, all_clear_of}
+use Rattle.rules.specs.Checks.{all_clear_of}
 use Rattle.rules.proofs.Every.{every_none, every_more, every_stops, every_end, seen}
 use Rattle.state.proofs.Cutting.{total_more, total_within, part_of_all, part_is, length_cut}
 use Rattle.row_checks.proofs.fronts.clear_of_fronts.Goals as goal
@@ -27,9 +25,9 @@ nodes_of-nodes-requires c =
 
 pub own_or_clear-requires : goal.own_or_clear-requires
 own_or_clear-requires c = record {
-      n_in_bounds = c.requires.n_in_bounds;
-      by_index = part_of_all c.args.lengths.now c.args.front_nodes.now _ c.loop-other-test.true c.requires.lengths_in_bounds _ _ _ _ c.loop-other.invariant.1 c.wide-len.ensures c.nodes_of-nodes.ensures c.requires.by_index;
-    }
+  n_in_bounds = c.requires.n_in_bounds;
+  by_index = part_of_all c.args.lengths.now c.args.front_nodes.now _ c.loop-other-test.true c.requires.lengths_in_bounds _ _ _ _ c.loop-other.invariant.1 c.wide-len.ensures c.nodes_of-nodes.ensures c.requires.by_index;
+}
 
 pub returns-then-not-own_or_clear : goal.returns-then-not-own_or_clear
 returns-then-not-own_or_clear c =

@@ -1,6 +1,5 @@
 -- `row_checks::fronts::own_or_clear` meets its contract.
 use mathlib.Core.Path.{sym, ◌∙◌}
-use borrow.Author.Rules.{rules}
 use lib.Ieee.{binary64}
 use lib.Ieee.Fits.{mul-fits}
 use Rattle.row_checks.proofs.FarClear.{far_clear}

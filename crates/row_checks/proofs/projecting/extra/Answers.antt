@@ -1,7 +1,6 @@
 -- `row_checks::projecting::extra` meets its contract.
 use Rattle.geometry.proofs.Literals.{zero_is}
 use Rattle.row_checks.proofs.Literals.{quarter_is}
-use borrow.Author.Rules.{rules}
 use Rattle.row_checks.proofs.projecting.extra.Goals as goal
 
 pub returns-then-sharp_turn : goal.returns-then-sharp_turn

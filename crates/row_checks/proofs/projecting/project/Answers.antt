@@ -2,7 +2,6 @@
 use Rattle.geometry.proofs.Literals.{tiny_is, two_is, three_is}
 use Rattle.row_checks.proofs.Literals.{nano_is, fifth_is}
 use Rattle.row_checks.proofs.Projects.{short_before, short_after, no_bisector, too_acute, projected}
-use borrow.Author.Rules.{rules}
 use Rattle.row_checks.proofs.projecting.project.Goals as goal
 
 pub returns-then-l1 : goal.returns-then-l1

@@ -1,13 +1,10 @@
 use mathlib.Core.Path.{◌≡◌, sym, ◌∙◌, ap}
 use mathlib.Core.Bool.{true, ◌&&◌}
-use Prim.Native.Nat.{ℕ, ◌≤◌, ◌<◌, ◌-◌}
+use Prim.Native.Nat.{ℕ, ◌<◌, ◌-◌}
 use native.Mathlib.Omega.{arith}
-use borrow.Author.Rules.{rules}
-use borrow.Author.Tests.{not-true, not-false}
 use lib.ListN.{length, get_or}
 use Rattle.rules.specs.Checks.{every}
-use Rattle.geometry.specs.Rings.{point_at, next}
-use Rattle.geometry.specs.Measures.{side_length}
+use Rattle.geometry.specs.Rings.{point_at}
 use Rattle.geometry.proofs.Flip.{length_flip}
 use Rattle.state.proofs.Basics.{and_false}
 use Rattle.rules.proofs.Every.{every_none, every_more, every_stops, every_end, too_near, far_enough}
@@ -44,13 +41,12 @@ returns-then-new_side-least c =
     (every_stops (long_enough a.least a.row.now a.n) c.loop-i.i a.n l (too_near a.least s c.if-new_side-least.true))
 
 pub corners_pass_with-requires : goal.corners_pass_with-requires
-corners_pass_with-requires c =
- (
-      c.side_length-old_side.ensures,
-      c.side_length-next_rung.ensures,
-      c.side_length-new_side.ensures ∙ length_flip _ _,
-      c.loop-i.invariant.3 ∙ length_flip _ _,
-    )
+corners_pass_with-requires c = (
+  c.side_length-old_side.ensures,
+  c.side_length-next_rung.ensures,
+  c.side_length-new_side.ensures ∙ length_flip _ _,
+  c.loop-i.invariant.3 ∙ length_flip _ _,
+)
 
 pub returns-then-not-corners_pass_with : goal.returns-then-not-corners_pass_with
 returns-then-not-corners_pass_with c =

@@ -1,19 +1,12 @@
 -- `row_checks::quads::all_quads_stand` meets its contract. The invariant: the sides passed are long enough and the quads passed have good corners, and the turn has its rung and the rung's length. The measure is the quads left.
-use mathlib.Core.Path.{◌≡◌, sym, ◌∙◌, ap}
-use mathlib.Core.Bool.{true, ◌&&◌}
-use Prim.Native.Nat.{ℕ, ◌≤◌, ◌<◌, ◌-◌}
-use native.Mathlib.Omega.{arith}
-use borrow.Author.Rules.{rules}
-use borrow.Author.Tests.{not-true, not-false}
-use lib.ListN.{length, get_or}
+use mathlib.Core.Path.{◌≡◌}
+use mathlib.Core.Bool.{true}
+use Prim.Native.Nat.{◌≤◌, ◌<◌, ◌-◌}
+use lib.ListN.{get_or}
 use Rattle.rules.specs.Checks.{every}
-use Rattle.geometry.specs.Rings.{point_at, next}
+use Rattle.geometry.specs.Rings.{point_at}
 use Rattle.geometry.specs.Measures.{side_length}
-use Rattle.geometry.proofs.Flip.{length_flip}
-use Rattle.state.proofs.Basics.{and_false}
-use Rattle.rules.proofs.Every.{every_none, every_more, every_stops, every_end, too_near, far_enough}
-use Rattle.pairs.proofs.Sides.{next_inner}
-use Rattle.row_checks.proofs.Sides.{long_enough, corners_good, side_of, corners_of}
+use Rattle.row_checks.proofs.Sides.{long_enough, corners_good}
 use Rattle.row_checks.proofs.quads.all_quads_stand.Given as goal
 
 abbrev pub invariant-loop-i : goal.invariant-loop-i

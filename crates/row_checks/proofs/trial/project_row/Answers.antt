@@ -1,14 +1,11 @@
 use mathlib.Core.Path.{◌≡◌, refl, ap, ◌∙◌}
 use mathlib.Core.Bool.{true, cond}
-use Prim.Native.Nat.{◌≤◌, ◌<◌, ◌-◌, ◌*◌}
+use Prim.Native.Nat.{◌-◌}
 use native.Mathlib.Omega.{arith}
-use borrow.Author.Rules.{rules}
 use lib.ListN.{length}
-use lib.Seq.{sets}
-use Rattle.geometry.specs.Rings.{Ring, node_ring, prev}
-use Rattle.geometry.specs.Measures.{side_length}
+use Rattle.geometry.specs.Rings.{Ring, node_ring}
 use Rattle.state.proofs.Basics.{twenty_two}
-use Rattle.rules.specs.Checks.{every, new_points}
+use Rattle.rules.specs.Checks.{new_points}
 use Rattle.row_checks.specs.Candidate.{tried}
 use Rattle.rules.proofs.Every.{every_none, every_more, every_stops, every_end}
 use Rattle.row_checks.proofs.Building.{projects, projected_at, handed_on, fails, passes, points_more, length_more, row_more, row_done}

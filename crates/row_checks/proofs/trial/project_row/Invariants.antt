@@ -1,18 +1,13 @@
 -- `row_checks::trial::project_row` meets its contract. The invariant: the nodes passed project, their points stand at the front of the row, and the turn has the node before, its own and the length of the side between. The measure is the nodes left.
-use mathlib.Core.Path.{◌≡◌, refl, ap, ◌∙◌}
-use mathlib.Core.Bool.{true, cond}
+use mathlib.Core.Path.{◌≡◌}
+use mathlib.Core.Bool.{true}
 use Prim.Native.Nat.{◌≤◌, ◌<◌, ◌-◌, ◌*◌}
-use native.Mathlib.Omega.{arith}
-use borrow.Author.Rules.{rules}
 use lib.ListN.{length}
 use lib.Seq.{sets}
-use Rattle.geometry.specs.Rings.{Ring, node_ring, prev}
+use Rattle.geometry.specs.Rings.{node_ring, prev}
 use Rattle.geometry.specs.Measures.{side_length}
-use Rattle.state.proofs.Basics.{twenty_two}
 use Rattle.rules.specs.Checks.{every, new_points}
-use Rattle.row_checks.specs.Candidate.{tried}
-use Rattle.rules.proofs.Every.{every_none, every_more, every_stops, every_end}
-use Rattle.row_checks.proofs.Building.{projects, projected_at, handed_on, fails, passes, points_more, length_more, row_more, row_done}
+use Rattle.row_checks.proofs.Building.{projects}
 use Rattle.row_checks.proofs.trial.project_row.Given as goal
 
 abbrev pub invariant-loop-i : goal.invariant-loop-i

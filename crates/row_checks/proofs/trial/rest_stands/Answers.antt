@@ -3,14 +3,12 @@ use mathlib.Core.Path.{◌≡◌, refl, sym, ◌∙◌, ap}
 use mathlib.Core.List.{List, []}
 use Prim.Native.Nat.{ℕ, ◌*◌, ◌+◌, ◌<◌}
 use native.Mathlib.Omega.{arith}
-use borrow.Author.Tests.{not-true, not-false}
 use lib.ListN.{length, get_or, take, drop}
 use Rattle.state.specs.State.{cut}
 use Rattle.input.specs.Job.{Job, job}
 use Rattle.row_checks.proofs.Literals.{twentieth_is}
 use Rattle.state.proofs.Cutting.{cut_at, cut-length, part_of_all, part_is, total_within}
 use Rattle.row_checks.proofs.Standing.{one_outside, one_at_boundary, one_quad_fails, one_near, crossing_decides}
-use borrow.Author.Rules.{rules}
 use Rattle.row_checks.proofs.trial.rest_stands.Goals as goal
 
 pub returns-then-not-all_inside : goal.returns-then-not-all_inside

@@ -1,11 +1,8 @@
 use mathlib.Core.Path.{◌≡◌, refl, ◌∙◌}
-use Prim.Native.Nat.{◌-◌, ◌≤◌}
+use Prim.Native.Nat.{◌-◌}
 use native.Mathlib.Omega.{arith}
-use borrow.Author.Rules.{rules}
 use lib.ListN.{length}
-use lib.Seq.{sets}
-use mathlib.Core.List.{map}
-use Rattle.state.specs.State.{quad_nodes, joined}
+use Rattle.state.specs.State.{joined}
 use Rattle.rules.specs.Checks.{row_quads}
 use Rattle.row_laying.proofs.Quads.{quads_more}
 use Rattle.row_laying.proofs.commit.put_row_quads.Goals as goal

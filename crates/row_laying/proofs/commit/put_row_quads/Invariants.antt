@@ -1,14 +1,11 @@
 -- `row_laying::commit::put_row_quads` meets its contract. The invariant: i of the row's quads are written. The measure is the quads left.
-use mathlib.Core.Path.{◌≡◌, refl, ◌∙◌}
+use mathlib.Core.Path.{◌≡◌}
 use Prim.Native.Nat.{◌-◌, ◌≤◌}
-use native.Mathlib.Omega.{arith}
-use borrow.Author.Rules.{rules}
 use lib.ListN.{length}
 use lib.Seq.{sets}
 use mathlib.Core.List.{map}
 use Rattle.state.specs.State.{quad_nodes, joined}
 use Rattle.rules.specs.Checks.{row_quads}
-use Rattle.row_laying.proofs.Quads.{quads_more}
 use Rattle.row_laying.proofs.commit.put_row_quads.Given as goal
 
 abbrev pub invariant-loop-i : goal.invariant-loop-i

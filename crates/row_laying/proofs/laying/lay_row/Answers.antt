@@ -12,7 +12,6 @@ use Rattle.state.proofs.Cutting.{total_within, part_is, cut-length}
 use Rattle.state.proofs.Reading.{sound_counted, fits}
 use Rattle.row_laying.specs.Room.{Room}
 use Rattle.row_laying.proofs.Writing.{laid_is_lem}
-use borrow.Author.Rules.{rules}
 use Rattle.row_laying.proofs.laying.lay_row.Goals as goal
 
 pub slice_bounds-front_at-end : goal.slice_bounds-front_at-end
@@ -53,7 +52,7 @@ nodes_of-requires c =
     let given : Held = held c.args.points.now c.args.quads.now c.args.front_nodes.now c.args.front_lengths.now c.args.counts in
     let sound : Sound given = c.requires.sound in
     let room : Room given c.args.li (length c.args.row.now) = c.requires.room in
-    let within : c.front_at-front.result.start + c.front_at-front.result.len ≤ length c.args.front_nodes.now = (    let w = total_within (sizes_of given) c.args.li room.front in
+    let within : c.front_at-front.result.start + c.front_at-front.result.len ≤ length c.args.front_nodes.now = (let w = total_within (sizes_of given) c.args.li room.front in
     let f = fits given (sound_counted given sound) in
     let fs = c.front_at-front.ensures.0 in
     let fl = c.front_at-front.ensures.1 in
@@ -66,7 +65,7 @@ put_row_quads-requires c =
     let given : Held = held c.args.points.now c.args.quads.now c.args.front_nodes.now c.args.front_lengths.now c.args.counts in
     let sound : Sound given = c.requires.sound in
     let room : Room given c.args.li (length c.args.row.now) = c.requires.room in
-    let old-is : c.nodes_of.result.now ≡ get_or (cut (sizes_of given) c.args.front_nodes.now) c.args.li [] = (    part_is (sizes_of given) c.args.front_nodes.now c.args.li room.front (fits given (sound_counted given sound)) _ _ _ c.front_at-front.ensures.0 c.front_at-front.ensures.1 c.nodes_of.ensures) in
+    let old-is : c.nodes_of.result.now ≡ get_or (cut (sizes_of given) c.args.front_nodes.now) c.args.li [] = (part_is (sizes_of given) c.args.front_nodes.now c.args.li room.front (fits given (sound_counted given sound)) _ _ _ c.front_at-front.ensures.0 c.front_at-front.ensures.1 c.nodes_of.ensures) in
     let held_facts = sound in
     let r = room in
     let fl = c.front_at-front.ensures.1 in
@@ -79,7 +78,7 @@ put_numbers-requires c =
     let given : Held = held c.args.points.now c.args.quads.now c.args.front_nodes.now c.args.front_lengths.now c.args.counts in
     let sound : Sound given = c.requires.sound in
     let room : Room given c.args.li (length c.args.row.now) = c.requires.room in
-    let within : c.front_at-front.result.start + c.front_at-front.result.len ≤ length c.args.front_nodes.now = (    let w = total_within (sizes_of given) c.args.li room.front in
+    let within : c.front_at-front.result.start + c.front_at-front.result.len ≤ length c.args.front_nodes.now = (let w = total_within (sizes_of given) c.args.li room.front in
     let f = fits given (sound_counted given sound) in
     let fs = c.front_at-front.ensures.0 in
     let fl = c.front_at-front.ensures.1 in
@@ -144,5 +143,5 @@ returns c =
     let given : Held = held c.args.points.now c.args.quads.now c.args.front_nodes.now c.args.front_lengths.now c.args.counts in
     let sound : Sound given = c.requires.sound in
     let room : Room given c.args.li (length c.args.row.now) = c.requires.room in
-    let old-is : c.nodes_of.result.now ≡ get_or (cut (sizes_of given) c.args.front_nodes.now) c.args.li [] = (    part_is (sizes_of given) c.args.front_nodes.now c.args.li room.front (fits given (sound_counted given sound)) _ _ _ c.front_at-front.ensures.0 c.front_at-front.ensures.1 c.nodes_of.ensures) in
+    let old-is : c.nodes_of.result.now ≡ get_or (cut (sizes_of given) c.args.front_nodes.now) c.args.li [] = (part_is (sizes_of given) c.args.front_nodes.now c.args.li room.front (fits given (sound_counted given sound)) _ _ _ c.front_at-front.ensures.0 c.front_at-front.ensures.1 c.nodes_of.ensures) in
     laid_is_lem given sound c.requires.clean c.args.li c.front_at-front.result.len c.args.row.now room c.front_at-front.ensures.1 c.copy_points.ensures old-is c.put_row_quads.ensures (rw c.front_at-front.ensures.0 at c.put_numbers.ensures) refl

@@ -2,11 +2,11 @@ use mathlib.Core.Path.{◌≡◌, refl, ap, ◌∙◌}
 use Prim.Native.Nat.{◌+◌, ◌*◌, ◌≤◌, ◌-◌}
 use native.Mathlib.Omega.{arith}
 use lib.ListN.{length, set, drop, length-set, length-drop}
-use borrow.Author.Rules.{rules, scaled_Fits}
+use borrow.Author.Rules.{scaled_Fits}
 use borrow.Author.Count.{falls}
 use Rattle.geometry.specs.Domain.{sum_of}
 use Rattle.state.specs.Limits.{front_node_limit}
-use Rattle.sampling.proofs.Sampling.{Progress, made_nodes, rest_whole, at_first, room_left, loop_refused, one_more, at_last}
+use Rattle.sampling.proofs.Sampling.{made_nodes, rest_whole, at_first, room_left, loop_refused, one_more, at_last}
 use Rattle.sampling.proofs.all_loops.loops_in_turn.Goals as goal
 
 pub loop-k-init : goal.loop-k-init
@@ -22,17 +22,17 @@ bounds-loop_lengths-k c = omega arith
 
 pub offset_bounds-coords-first : goal.offset_bounds-coords-first
 offset_bounds-coords-first c =
-    let room : (    c.loop-k.first + c.wide-n.result * 2 + sum_of (drop (c.loop-k.k + 1) c.args.loop_lengths.now) * 2 ≡ length c.args.coords.now) = room_left c.loop-k.invariant.0 c.wide-n.ensures c.loop-k-test.true in
+    let room : (c.loop-k.first + c.wide-n.result * 2 + sum_of (drop (c.loop-k.k + 1) c.args.loop_lengths.now) * 2 ≡ length c.args.coords.now) = room_left c.loop-k.invariant.0 c.wide-n.ensures c.loop-k-test.true in
     omega (arith, room, c.well_formed.0.1)
 
 pub slice_bounds-rest-count : goal.slice_bounds-rest-count
 slice_bounds-rest-count c =
-    let room : (    c.loop-k.first + c.wide-n.result * 2 + sum_of (drop (c.loop-k.k + 1) c.args.loop_lengths.now) * 2 ≡ length c.args.coords.now) = room_left c.loop-k.invariant.0 c.wide-n.ensures c.loop-k-test.true in
+    let room : (c.loop-k.first + c.wide-n.result * 2 + sum_of (drop (c.loop-k.k + 1) c.args.loop_lengths.now) * 2 ≡ length c.args.coords.now) = room_left c.loop-k.invariant.0 c.wide-n.ensures c.loop-k-test.true in
     omega (arith, room)
 
 pub sample_loop-made-requires : goal.sample_loop-made-requires
 sample_loop-made-requires c =
-    let room : (    c.loop-k.first + c.wide-n.result * 2 + sum_of (drop (c.loop-k.k + 1) c.args.loop_lengths.now) * 2 ≡ length c.args.coords.now) = room_left c.loop-k.invariant.0 c.wide-n.ensures c.loop-k-test.true in
+    let room : (c.loop-k.first + c.wide-n.result * 2 + sum_of (drop (c.loop-k.k + 1) c.args.loop_lengths.now) * 2 ≡ length c.args.coords.now) = room_left c.loop-k.invariant.0 c.wide-n.ensures c.loop-k-test.true in
     let l = c.loop-k in
     let e = room in
     let left : c.wide-n.result * 2 ≤ length c.args.coords.now - l.first = omega (arith, e) in record {
@@ -92,12 +92,12 @@ bounds-front_lengths-k c =
 
 pub overflow_mul-first : goal.overflow_mul-first
 overflow_mul-first c =
-    let room : (    c.loop-k.first + c.wide-n.result * 2 + sum_of (drop (c.loop-k.k + 1) c.args.loop_lengths.now) * 2 ≡ length c.args.coords.now) = room_left c.loop-k.invariant.0 c.wide-n.ensures c.loop-k-test.true in
+    let room : (c.loop-k.first + c.wide-n.result * 2 + sum_of (drop (c.loop-k.k + 1) c.args.loop_lengths.now) * 2 ≡ length c.args.coords.now) = room_left c.loop-k.invariant.0 c.wide-n.ensures c.loop-k-test.true in
     omega (arith, room, c.requires.loop_lengths_value.1)
 
 pub overflow_add-first : goal.overflow_add-first
 overflow_add-first c =
-    let room : (    c.loop-k.first + c.wide-n.result * 2 + sum_of (drop (c.loop-k.k + 1) c.args.loop_lengths.now) * 2 ≡ length c.args.coords.now) = room_left c.loop-k.invariant.0 c.wide-n.ensures c.loop-k-test.true in
+    let room : (c.loop-k.first + c.wide-n.result * 2 + sum_of (drop (c.loop-k.k + 1) c.args.loop_lengths.now) * 2 ≡ length c.args.coords.now) = room_left c.loop-k.invariant.0 c.wide-n.ensures c.loop-k-test.true in
     omega (arith, room, c.requires.loop_lengths_value.1)
 
 pub overflow_add-before : goal.overflow_add-before

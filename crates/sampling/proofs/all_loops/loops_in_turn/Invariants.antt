@@ -1,13 +1,8 @@
 -- `sampling::all_loops::loops_in_turn` meets its contract. The invariant: k loops are sampled and written, and the definition goes on with those to come.
-use mathlib.Core.Path.{◌≡◌, refl, ap, ◌∙◌}
-use Prim.Native.Nat.{◌+◌, ◌*◌, ◌≤◌, ◌-◌}
-use native.Mathlib.Omega.{arith}
-use lib.ListN.{length, set, drop, length-set, length-drop}
-use borrow.Author.Rules.{rules, scaled_Fits}
-use borrow.Author.Count.{falls}
-use Rattle.geometry.specs.Domain.{sum_of}
-use Rattle.state.specs.Limits.{front_node_limit}
-use Rattle.sampling.proofs.Sampling.{Progress, made_nodes, rest_whole, at_first, room_left, loop_refused, one_more, at_last}
+use mathlib.Core.Path.{◌≡◌}
+use Prim.Native.Nat.{◌-◌}
+use lib.ListN.{length}
+use Rattle.sampling.proofs.Sampling.{Progress}
 use Rattle.sampling.proofs.all_loops.loops_in_turn.Given as goal
 
 abbrev pub invariant-loop-k : goal.invariant-loop-k

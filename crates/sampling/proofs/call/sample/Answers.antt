@@ -3,7 +3,6 @@ use mathlib.Core.Path.{refl, ◌∙◌, sym, ap}
 use Prim.Native.Nat.{◌≤◌}
 use native.Mathlib.Omega.{arith}
 use lib.ListN.{length}
-use borrow.Author.Rules.{rules}
 use Rattle.state.specs.Limits.{front_node_limit}
 use Rattle.state.specs.State.{Lengths, zeros}
 use Rattle.state.specs.Call.{lengths_of}

@@ -1,9 +1,7 @@
 use mathlib.Core.Path.{◌≡◌, refl}
-use Prim.Native.Nat.{◌-◌, ◌≤◌}
 use native.Mathlib.Omega.{arith}
 use borrow.Author.Rules.{scaled_Fits}
 use lib.ListN.{length, length-set}
-use lib.Seq.{sets}
 use Rattle.state.specs.State.{numbered}
 use Rattle.state.proofs.Growing.{number_more}
 use Rattle.state.proofs.appending.put_numbers.Goals as goal

@@ -1,12 +1,9 @@
 -- `state::appending::put_numbers` meets its contract. The invariant: i numbers are written. The measure is the numbers left.
-use mathlib.Core.Path.{◌≡◌, refl}
+use mathlib.Core.Path.{◌≡◌}
 use Prim.Native.Nat.{◌-◌, ◌≤◌}
-use native.Mathlib.Omega.{arith}
-use borrow.Author.Rules.{scaled_Fits}
-use lib.ListN.{length, length-set}
+use lib.ListN.{length}
 use lib.Seq.{sets}
 use Rattle.state.specs.State.{numbered}
-use Rattle.state.proofs.Growing.{number_more}
 use Rattle.state.proofs.appending.put_numbers.Given as goal
 
 abbrev pub invariant-loop-i : goal.invariant-loop-i

@@ -2,7 +2,6 @@
 use native.Mathlib.Omega.{arith}
 use lib.ListN.{length-set}
 use native.Mathlib.Numerals.{add-one, add-two, add-three}
-use borrow.Author.Rules.{rules}
 use Rattle.state.proofs.appending.put_quad.Goals as goal
 
 pub bounds-quads-at-2 : goal.bounds-quads-at-2

@@ -1,5 +1,4 @@
 -- `state::buffers::clear_all` meets its contract: what each call ensures, put into the one equation.
-use borrow.Author.Rules.{rules}
 use Rattle.state.proofs.buffers.clear_all.Goals as goal
 
 pub returns : goal.returns

@@ -1,13 +1,9 @@
 -- `state::buffers::clear_floats` meets its contract. The invariant: i places are 0 and the others as they were, so the length stays.
-use mathlib.Core.Path.{◌≡◌, ◌∙◌, ap, sym, refl}
+use mathlib.Core.Path.{◌≡◌}
 use mathlib.Core.List.{◌++◌}
 use Prim.Native.Nat.{◌≤◌, ◌-◌}
-use native.Mathlib.Omega.{arith}
-use lib.ListN.{length, drop, replicate, length-set}
-use borrow.Author.Rules.{scaled_Fits}
+use lib.ListN.{length, drop, replicate}
 use Rattle.float.specs.Helpers.{decimal}
-use Rattle.float.proofs.Literals.{zero_is}
-use Rattle.state.proofs.Fill.{fill_step, fill_end}
 use Rattle.state.proofs.buffers.clear_floats.Given as goal
 
 abbrev pub invariant-loop-i : goal.invariant-loop-i

@@ -1,5 +1,4 @@
 -- `state::buffers::clear_floats_from` meets its contract.
-use borrow.Author.Rules.{rules}
 use Rattle.state.proofs.Fill.{fill_from}
 use Rattle.state.proofs.buffers.clear_floats_from.Goals as goal
 

@@ -1,8 +1,6 @@
-use mathlib.Core.Path.{◌≡◌, ◌∙◌, ap, sym, refl}
-use mathlib.Core.List.{◌++◌}
-use Prim.Native.Nat.{◌≤◌, ◌-◌}
+use mathlib.Core.Path.{refl}
 use native.Mathlib.Omega.{arith}
-use lib.ListN.{length, drop, replicate, length-set}
+use lib.ListN.{length, length-set}
 use borrow.Author.Rules.{scaled_Fits}
 use Rattle.state.proofs.Fill.{fill_step, fill_end}
 use Rattle.state.proofs.buffers.clear_nodes.Goals as goal

@@ -1,5 +1,4 @@
 -- `state::buffers::clear_nodes_from` meets its contract.
-use borrow.Author.Rules.{rules}
 use Rattle.state.proofs.Fill.{fill_from}
 use Rattle.state.proofs.buffers.clear_nodes_from.Goals as goal
 

@@ -7,7 +7,6 @@ use Rattle.state.specs.State.{Held}
 use Rattle.state.specs.Call.{held}
 use Rattle.state.specs.Sound.{Sound}
 use Rattle.state.proofs.Zeros.{cleared_is}
-use borrow.Author.Rules.{rules}
 use Rattle.state.proofs.clearing.clear_behind.Goals as goal
 
 pub returns-then-clean : goal.returns-then-clean

@@ -1,10 +1,7 @@
-use mathlib.Core.Path.{◌≡◌, refl}
-use mathlib.Core.Bool.{◌||◌}
-use Prim.Native.Nat.{◌≤◌, ◌-◌}
+use mathlib.Core.Path.{refl}
 use native.Mathlib.Omega.{arith}
-use lib.ListN.{length, drop}
-use borrow.Author.Rules.{rules, scaled_Fits}
-use Rattle.state.specs.Coordinates.{wrong_coordinate}
+use lib.ListN.{length}
+use borrow.Author.Rules.{scaled_Fits}
 use Rattle.state.proofs.Walk.{one_more, none_left}
 use Rattle.state.proofs.coordinates.wrong_coordinate.Goals as goal
 

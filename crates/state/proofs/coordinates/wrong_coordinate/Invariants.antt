@@ -1,12 +1,9 @@
 -- `state::coordinates::wrong_coordinate` meets its contract. The invariant: what was found, or the coordinates from the ith on, give the answer.
-use mathlib.Core.Path.{◌≡◌, refl}
+use mathlib.Core.Path.{◌≡◌}
 use mathlib.Core.Bool.{◌||◌}
 use Prim.Native.Nat.{◌≤◌, ◌-◌}
-use native.Mathlib.Omega.{arith}
 use lib.ListN.{length, drop}
-use borrow.Author.Rules.{rules, scaled_Fits}
 use Rattle.state.specs.Coordinates.{wrong_coordinate}
-use Rattle.state.proofs.Walk.{one_more, none_left}
 use Rattle.state.proofs.coordinates.wrong_coordinate.Given as goal
 
 abbrev pub invariant-loop-i : goal.invariant-loop-i

@@ -1,6 +1,5 @@
 -- `state::coordinates::wrong_number` meets its contract.
 use mathlib.Core.Path.{◌∙◌, sym}
-use borrow.Author.Rules.{rules}
 use Rattle.float.proofs.Bounds.{beyond}
 use Rattle.state.proofs.coordinates.wrong_number.Goals as goal
 

@@ -1,10 +1,8 @@
-use mathlib.Core.Path.{◌≡◌, ◌∙◌, sym}
-use Prim.Native.Nat.{◌≤◌, ◌-◌, ◌+◌, ◌*◌}
+use mathlib.Core.Path.{◌∙◌, sym}
 use native.Mathlib.Nat.{zero-add, add-zero}
 use native.Mathlib.Omega.{arith}
-use lib.ListN.{length, drop}
-use borrow.Author.Rules.{rules, scaled_Fits}
-use Rattle.geometry.specs.Domain.{sum_of}
+use lib.ListN.{length}
+use borrow.Author.Rules.{scaled_Fits}
 use Rattle.state.proofs.Walk.{total_step, total_end}
 use Rattle.state.proofs.fronts.sum_of.Goals as goal
 

@@ -1,12 +1,8 @@
 -- `state::fronts::sum_of` meets its contract. The invariant: the sum and what the loops from the ith on have are what all have.
-use mathlib.Core.Path.{◌≡◌, ◌∙◌, sym}
+use mathlib.Core.Path.{◌≡◌}
 use Prim.Native.Nat.{◌≤◌, ◌-◌, ◌+◌, ◌*◌}
-use native.Mathlib.Nat.{zero-add, add-zero}
-use native.Mathlib.Omega.{arith}
 use lib.ListN.{length, drop}
-use borrow.Author.Rules.{rules, scaled_Fits}
 use Rattle.geometry.specs.Domain.{sum_of}
-use Rattle.state.proofs.Walk.{total_step, total_end}
 use Rattle.state.proofs.fronts.sum_of.Given as goal
 
 abbrev pub invariant-loop-i : goal.invariant-loop-i

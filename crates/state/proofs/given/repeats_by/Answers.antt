@@ -1,8 +1,5 @@
-use Prim.Native.Nat.{◌-◌, ◌≤◌}
 use native.Mathlib.Omega.{arith}
-use borrow.Author.Rules.{rules}
-use lib.ListN.{length}
-use Rattle.state.proofs.Repeating.{Marked, none_marked, met_before, mark, all_marked}
+use Rattle.state.proofs.Repeating.{none_marked, met_before, mark, all_marked}
 use Rattle.state.proofs.given.repeats_by.Goals as goal
 
 pub loop-i-init : goal.loop-i-init

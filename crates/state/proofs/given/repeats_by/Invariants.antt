@@ -1,9 +1,7 @@
 -- `state::given::repeats_by` meets its contract. The invariant: just the numbers passed are marked, and none of them stands twice. The measure is the numbers left.
 use Prim.Native.Nat.{◌-◌, ◌≤◌}
-use native.Mathlib.Omega.{arith}
-use borrow.Author.Rules.{rules}
 use lib.ListN.{length}
-use Rattle.state.proofs.Repeating.{Marked, none_marked, met_before, mark, all_marked}
+use Rattle.state.proofs.Repeating.{Marked}
 use Rattle.state.proofs.given.repeats_by.Given as goal
 
 abbrev pub invariant-loop-i : goal.invariant-loop-i

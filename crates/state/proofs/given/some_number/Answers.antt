@@ -1,11 +1,6 @@
-use mathlib.Core.Path.{◌≡◌, refl, sym, ◌∙◌}
-use mathlib.Core.Bool.{Bool, true, false, cond}
-use Prim.Native.Nat.{ℕ, ◌-◌, ◌≤◌}
-use lib.Dec.{leb, ltb}
+use mathlib.Core.Path.{refl, sym, ◌∙◌}
+use mathlib.Core.Bool.{true, false}
 use native.Mathlib.Omega.{arith}
-use borrow.Author.Rules.{rules}
-use lib.ListN.{length, drop}
-use Rattle.state.specs.Given.{some}
 use Rattle.state.proofs.Repeating.{some_here, some_end, on_side}
 use Rattle.state.proofs.given.some_number.Goals as goal
 use Rattle.state.proofs.given.some_number.Invariants.{found}

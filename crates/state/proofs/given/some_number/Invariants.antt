@@ -1,13 +1,10 @@
 -- `state::given::some_number` meets its contract. The invariant: the rest of the list decides. The measure is its length.
-use mathlib.Core.Path.{◌≡◌, refl, sym, ◌∙◌}
-use mathlib.Core.Bool.{Bool, true, false, cond}
+use mathlib.Core.Path.{◌≡◌}
+use mathlib.Core.Bool.{Bool, cond}
 use Prim.Native.Nat.{ℕ, ◌-◌, ◌≤◌}
 use lib.Dec.{leb, ltb}
-use native.Mathlib.Omega.{arith}
-use borrow.Author.Rules.{rules}
 use lib.ListN.{length, drop}
 use Rattle.state.specs.Given.{some}
-use Rattle.state.proofs.Repeating.{some_here, some_end, on_side}
 use Rattle.state.proofs.given.some_number.Given as goal
 
 -- what is looked for

@@ -5,7 +5,6 @@ use borrow.Author.Tests.{lt-ltb, le-ltb}
 use lib.ListN.{length-take}
 use lib.Seq.{length-take-le}
 use Rattle.state.specs.Given.{wrong_counts}
-use borrow.Author.Rules.{rules}
 use Rattle.state.proofs.given.wrong_counts.Goals as goal
 
 pub returns-then-counts-gt4096 : goal.returns-then-counts-gt4096

@@ -1,7 +1,6 @@
 -- `state::given::wrong_nodes` meets its contract.
 use mathlib.Core.Path.{sym, ◌∙◌}
 use Rattle.state.proofs.Repeating.{from_both, all_below}
-use borrow.Author.Rules.{rules}
 use Rattle.state.proofs.given.wrong_nodes.Goals as goal
 
 pub returns-then-some_number : goal.returns-then-some_number

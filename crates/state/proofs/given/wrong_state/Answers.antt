@@ -2,7 +2,7 @@
 use mathlib.Core.Path.{◌≡◌, sym, ◌∙◌, ap}
 use mathlib.Core.Bool.{false}
 use native.Mathlib.Omega.{arith}
-use lib.ListN.{length, length-take}
+use lib.ListN.{length-take}
 use lib.Seq.{length-take-le}
 use Rattle.state.specs.State.{Held, Lengths}
 use Rattle.state.specs.Call.{held}
@@ -10,7 +10,6 @@ use Rattle.state.specs.Given.{wrong_counts}
 use Rattle.state.proofs.Literals.{billion_is}
 use Rattle.state.proofs.Reading.{Counted}
 use Rattle.state.proofs.Sounding.{counted, by_counts, by_nodes, by_coordinate, by_sums}
-use borrow.Author.Rules.{rules}
 use Rattle.state.proofs.given.wrong_state.Goals as goal
 
 pub wrong_counts-requires : goal.wrong_counts-requires

@@ -1,6 +1,5 @@
 -- `state::given::wrong_sums` meets its contract.
 use Rattle.state.proofs.Sounding.{too_many, unequal, laid_over, rounds_decide}
-use borrow.Author.Rules.{rules}
 use Rattle.state.proofs.given.wrong_sums.Goals as goal
 
 pub returns-then-counts : goal.returns-then-counts
