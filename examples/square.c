@@ -1,6 +1,6 @@
 /* Paves document 01's square, of side 3 mm with tiles of 1 mm, and prints the answer as the program pave does.
  *
- *     rt staticlib exports
+ *     tools/build
  *     gcc -Iinclude examples/square.c target/staticlib/libexports*.a -o target/square
  */
 #include <inttypes.h>

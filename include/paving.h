@@ -1,6 +1,6 @@
 /* Paving of cradle plates: the calls on a job and on a state.
  *
- * Link with the archives target/staticlib/libexports*.a, which `rt staticlib NAME` writes for each crate crates/exports*
+ * Link with the archives target/staticlib/libexports*.a, which `tools/build` makes of each crate crates/exports*
  * (x86-64 Linux). They need memcpy and memset and nothing else. examples/square.c is a whole program. The measures of sides,
  * rings, quads and outlines are in paving_geometry.h, and the job's text in paving_text.h.
  *

@@ -1,4 +1,4 @@
-//! The port's calls, from the static libraries that `rt staticlib` writes of the crates exports*.
+//! The port's calls, from the static libraries that tools/build makes of the crates exports*.
 //! A slice goes over as its address and its length.
 
 pub mod calls {

@@ -1,4 +1,4 @@
-//! Links the archives that `rt staticlib` writes for the crates exports*: from the folder that PAVING_LIB names, or from
+//! Links the archives that `tools/build` makes of the crates exports*: from the folder that PAVING_LIB names, or from
 //! target/staticlib of the repository.
 
 use std::path::PathBuf;
@@ -21,7 +21,7 @@ fn main() {
         .collect();
     names.sort();
     if names.is_empty() {
-        panic!("no libexports*.a in {}: run `rt staticlib exports` first, or set PAVING_LIB", folder.display());
+        panic!("no libexports*.a in {}: run `tools/build` first, or set PAVING_LIB", folder.display());
     }
     for name in names {
         println!("cargo:rerun-if-changed={}", folder.join(format!("lib{name}.a")).display());

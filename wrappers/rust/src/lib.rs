@@ -1,6 +1,6 @@
 //! Paving of cradle plates: four-sided tiles laid in rows inward from the outline of a flat plate.
 //!
-//! Safe functions and types over the calls of the library that `rt staticlib` writes. No dependency. Every call takes all
+//! Safe functions and types over the calls of the library that `tools/build` makes. No dependency. Every call takes all
 //! contents of all slices and answers a result or a [`Refusal`], and ends; that is proved of the library.
 //!
 //! A [`Job`] is an outline, a size and [`Options`]. [`Paving::job`] paves it:
