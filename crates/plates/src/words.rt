@@ -63,7 +63,7 @@ fn call(rt: &impl Print, text: &[u8], letters: &[u8]) {
 fn answer(rt: &(impl Files + Print + Eprint), word: &str) {
     line(rt, word.as_bytes());
     let mut input = [0u8; 65536];
-    match word.split_once('\t') {
+    match word.split_once(['\t', '\n']) {
         None => {
             let n = read_file(rt, word, &mut input);
             pave(rt, &input[..n]);
