@@ -1,23 +1,18 @@
 -- The text of numbers, points, quads and fronts, one a turn.
-use mathlib.Core.Path.{◌≡◌, refl, sym, ◌∙◌, ap}
+use mathlib.Core.Path.{◌≡◌, refl, sym, ap}
 use mathlib.Core.List.{List, [], ◌∷◌, ◌++◌, map, append_assoc}
-use Prim.Native.Nat.{ℕ, suc, ◌+◌, ◌-◌, ◌*◌, ◌/◌, ◌<◌, ◌≤◌}
+use Prim.Native.Nat.{ℕ, zero, suc, ◌+◌, ◌*◌, ◌/◌, ◌<◌, ◌≤◌}
 use native.Mathlib.Numerals.{add-one}
 use native.Mathlib.Omega.{arith}
 use lib.Ieee.{Float}
-use lib.ListN.{length, get_or, take, drop, length-drop, drop_of_length-le}
-use lib.Seq.{drop-cons, drop-drop}
+use lib.ListN.{length, get_or, take, drop, drop_of_length-le}
+use lib.Seq.{drop-cons, drop-drop, length-take-le}
 use Rattle.geometry.specs.Domain.{sum_of}
-use Rattle.state.specs.State.{quad_nodes, quads_of, cut}
+use Rattle.state.specs.State.{Quad, quad, quad_nodes, quads_of, cut}
 use Rattle.text.specs.Decimal.{decimal_text}
 use Rattle.answer_text.specs.AnswerText.{tab, numbers_text, line_text, lines_text, point_text, points_text}
 
 -- ---- numbers
-
-pub numbers-append : (xs ys : List ℕ) → numbers_text (xs ++ ys) ≡ numbers_text xs ++ numbers_text ys
-unfolding numbers_text
-numbers-append [] ys = refl
-numbers-append (x ∷ xs) ys = ap (λ t. (tab ∷ decimal_text x) ++ t) (numbers-append xs ys) ∙ sym (append_assoc (tab ∷ decimal_text x) (numbers_text xs) (numbers_text ys))
 
 pub numbers-next : (l : List ℕ) (i v : ℕ) → i < length l → v ≡ get_or l i 0 → numbers_text (drop i l) ≡ (tab ∷ decimal_text v) ++ numbers_text (drop (i + 1) l)
 unfolding numbers_text
@@ -27,65 +22,65 @@ pub numbers_end : (l : List ℕ) (i : ℕ) → length l ≤ i → numbers_text (
 unfolding numbers_text
 numbers_end l i h = rw (drop_of_length-le l h)
 
+-- and with something behind them
+pub numbers_behind : (l : List ℕ) (i v : ℕ) (t : List ℕ) → i < length l → v ≡ get_or l i 0 → numbers_text (drop i l) ++ t ≡ (tab ∷ decimal_text v) ++ (numbers_text (drop (i + 1) l) ++ t)
+numbers_behind l i v t h e = rw (numbers-next l i v h e) (append_assoc (tab ∷ decimal_text v) (numbers_text (drop (i + 1) l)) t)
+
 -- ---- points
 
-pub points_next : (l : List Float) (i : ℕ) (z : Float) → i < length l / 2 → points_text (drop (i * 2) l) ≡ point_text (get_or l (i * 2) z) (get_or l (i * 2 + 1) z) ++ points_text (drop ((i + 1) * 2) l)
+-- a point, and the points behind it
+pub points_next : (s p r : List Float) (z : Float) → s ≡ p ++ r → length p ≡ 2 → points_text s ≡ point_text (get_or p 0 z) (get_or p 1 z) ++ points_text r
 unfolding points_text
-points_next l i z h =
-    let e : (i + 1) * 2 ≡ suc (suc (i * 2)) = omega arith in
-    let a : i * 2 < length l = omega arith in
-    let b : suc (i * 2) < length l = omega arith in
-    rw (e, add-one, drop-cons l (i * 2) z a, drop-cons l (suc (i * 2)) z b)
+points_next s [] r z e h = absurd (omega arith)
+points_next s (x ∷ []) r z e h = absurd (omega arith)
+points_next s (x ∷ y ∷ []) r z e h = rw e
+points_next s (x ∷ y ∷ w ∷ p) r z e h = absurd (omega arith)
 
-pub points_end : (l : List Float) (i : ℕ) → length l / 2 ≤ i → points_text (drop (i * 2) l) ≡ []
+pub points_end : (r : List Float) → length r < 2 → points_text r ≡ []
 unfolding points_text
-points_end l i h = go (drop (i * 2) l) (let n = length-drop (i * 2) l in omega arith)
-  where
-    go : (r : List Float) → length r ≤ 1 → points_text r ≡ []
-    go [] g = refl
-    go (x ∷ []) g = refl
-    go (x ∷ y ∷ r) g = absurd (none (length r) g)
-      where
-        none : (k : ℕ) → suc (suc k) ≤ 1 → ⊥
-        none k g = omega arith
+points_end [] h = refl
+points_end (x ∷ []) h = refl
+points_end (x ∷ y ∷ r) h = absurd (omega arith)
 
 -- ---- quads and fronts
 
-four_at : (l : List ℕ) → 4 ≤ length l → get_or l 0 0 ∷ get_or l 1 0 ∷ get_or l 2 0 ∷ get_or l 3 0 ∷ [] ≡ take 4 l
-four_at [] h = absurd (none h)
-  where
-    none : 4 ≤ 0 → ⊥
-    none h = omega arith
-four_at (a ∷ []) h = absurd (none h)
-  where
-    none : 4 ≤ 1 → ⊥
-    none h = omega arith
-four_at (a ∷ b ∷ []) h = absurd (none h)
-  where
-    none : 4 ≤ 2 → ⊥
-    none h = omega arith
-four_at (a ∷ b ∷ c ∷ []) h = absurd (none h)
-  where
-    none : 4 ≤ 3 → ⊥
-    none h = omega arith
-four_at (a ∷ b ∷ c ∷ d ∷ l) h = refl
+-- all whole quads of a list
+abbrev pub all_quads : List ℕ → List Quad
+all_quads q = quads_of (length q / 4) q
+
+quads_of-take : (n : ℕ) (q : List ℕ) → n * 4 ≤ length q → quads_of n (take (n * 4) q) ≡ quads_of n q
+unfolding quads_of
+quads_of-take zero q h = refl
+quads_of-take (suc n) [] h = absurd (omega arith)
+quads_of-take (suc n) (a ∷ []) h = absurd (omega arith)
+quads_of-take (suc n) (a ∷ b ∷ []) h = absurd (omega arith)
+quads_of-take (suc n) (a ∷ b ∷ c ∷ []) h = absurd (omega arith)
+quads_of-take (suc n) (a ∷ b ∷ c ∷ d ∷ q) h =
+    let m : suc n * 4 ≡ suc (suc (suc (suc (n * 4)))) = omega arith in
+    rw m (ap (λ (qs : List Quad). quad a b c d ∷ qs) (quads_of-take n q (omega arith)))
+
+pub quads_begin : (n : ℕ) (q : List ℕ) → n * 4 ≤ length q → quads_of n q ≡ all_quads (take (n * 4) q)
+quads_begin n q h =
+    let l = length-take-le (n * 4) q h in
+    let e : length (take (n * 4) q) / 4 ≡ n = omega arith in
+    rw e (sym (quads_of-take n q h))
 
 module _ (word : List ℕ) where
-  pub quads_begin : (l : List ℕ) (n : ℕ) → lines_text word (map quad_nodes (quads_of n l)) ≡ lines_text word (map quad_nodes (quads_of (n - 0) (drop (0 * 4) l)))
-  quads_begin l n = let e : n - 0 ≡ n = omega arith in rw e
-
-  pub quads_next : (l : List ℕ) (n i four : ℕ) → i < n → n * 4 ≤ length l → four ≡ 4
-      → lines_text word (map quad_nodes (quads_of (n - i) (drop (i * 4) l))) ≡ line_text word (take four (drop (i * 4) l)) ++ lines_text word (map quad_nodes (quads_of (n - (i + 1)) (drop ((i + 1) * 4) l)))
+  -- a quad, and the quads behind it
+  pub quads_next : (s p r : List ℕ) → s ≡ p ++ r → length p ≡ 4 → lines_text word (map quad_nodes (all_quads s)) ≡ line_text word p ++ lines_text word (map quad_nodes (all_quads r))
   unfolding lines_text quads_of
-  quads_next l n i four h g q =
-      let e : n - i ≡ suc (n - (i + 1)) = omega arith in
-      let k : (i + 1) * 4 ≡ i * 4 + 4 = omega arith in
-      let f : 4 ≤ length (drop (i * 4) l) = let m = length-drop (i * 4) l in omega arith in
-      rw (q, e, k, ← drop-drop 4 (i * 4) l, ← four_at (drop (i * 4) l) f)
+  quads_next s [] r e h = absurd (omega arith)
+  quads_next s (a ∷ []) r e h = absurd (omega arith)
+  quads_next s (a ∷ b ∷ []) r e h = absurd (omega arith)
+  quads_next s (a ∷ b ∷ c ∷ []) r e h = absurd (omega arith)
+  quads_next s (a ∷ b ∷ c ∷ d ∷ []) r e h =
+      let m : suc (suc (suc (suc (length r)))) / 4 ≡ suc (length r / 4) = omega arith in
+      rw (e, m)
+  quads_next s (a ∷ b ∷ c ∷ d ∷ f ∷ p) r e h = absurd (omega arith)
 
-  pub quads_end : (l : List ℕ) (n i : ℕ) → n ≤ i → lines_text word (map quad_nodes (quads_of (n - i) (drop (i * 4) l))) ≡ []
+  pub quads_end : (r : List ℕ) → length r < 4 → lines_text word (map quad_nodes (all_quads r)) ≡ []
   unfolding lines_text quads_of
-  quads_end l n i h = let e : n - i ≡ 0 = omega arith in rw e
+  quads_end r h = let m : length r / 4 ≡ 0 = omega arith in rw m
 
   pub fronts_next : (l xs : List ℕ) (i start v len : ℕ) → i < length l → v ≡ get_or l i 0 → len ≡ v
       → lines_text word (cut (drop i l) (drop start xs)) ≡ line_text word (take len (drop start xs)) ++ lines_text word (cut (drop (i + 1) l) (drop (start + v) xs))

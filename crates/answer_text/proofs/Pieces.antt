@@ -1,14 +1,13 @@
 -- The text of a state in four pieces, as the code puts it, and that every text fits.
 use mathlib.Core.Path.{◌≡◌, refl, ap}
 use mathlib.Core.Bool.{false}
-use mathlib.Core.List.{List, [], ◌∷◌, ◌++◌, map, append_assoc}
+use mathlib.Core.List.{List, [], ◌∷◌, ◌++◌, map}
 use Prim.Native.Nat.{ℕ, ◌+◌, ◌*◌, ◌%◌, ◌≤◌}
 use native.Mathlib.Omega.{arith}
 use lib.Ieee.{Float}
 use lib.ListN.{length, take, length-append}
+use Rattle.state.specs.Outcome.{Outcome, refused, gives}
 use Rattle.state.specs.declared.Counts.{Counts}
-use Rattle.state.specs.declared.Answer.{Answer}
-use Rattle.state.specs.declared.Answer.TheVariants.{Done, Refused}
 use Rattle.state.specs.State.{State, Held, quad_nodes, quads_of, cut, counts_of, lengths, no_counts, written, reading}
 use Rattle.state.specs.Given.{wrong_state}
 use Rattle.state.specs.Call.{Left, answer_number, number_of, held, left, lent}
@@ -17,14 +16,9 @@ use Rattle.state.proofs.Written.{reading-written}
 use Rattle.state.proofs.Reading.{Counted, sound_counted, sizes_long, points_long_lem, nodes-read, quads_read, fronts_read}
 use Rattle.text.specs.Putting.{Put, Room}
 use Rattle.state.proofs.Sounding.{sound as not-refused}
-use Rattle.answer_text.specs.AnswerText.{numbers_text, line_text, lines_text, points_text, count_numbers, state_text, refused_text, answer_text}
+use Rattle.answer_text.specs.AnswerText.{line_text, lines_text, points_text, count_numbers, state_text, refused_text, answer_text}
 use Rattle.answer_text.specs.Fits.{text_limit, SoundHeld, SoundAnswer}
-use Rattle.answer_text.proofs.LineLaws.{numbers-append}
 use Rattle.answer_text.proofs.Lengths.{Nodes, any_numbers, line_length, points_length_lem, quads_length_lem, fronts_length}
-
--- numbers put in two steps
-pub numbers_split : (xs ys tail : List ℕ) → numbers_text (xs ++ ys) ++ tail ≡ numbers_text xs ++ (numbers_text ys ++ tail)
-numbers_split xs ys tail = rw (numbers-append xs ys) (append_assoc (numbers_text xs) (numbers_text ys) tail)
 
 module _ (b : Held) (sound : Sound b) where
   abbrev counted : Counted b
@@ -87,20 +81,20 @@ refused_fits n =
 
 -- ---- an answer by its case
 
-module _ (a : Answer) (p : List Float) (q n l : List ℕ) where
-  pub done_sound : (c : Counts) → a ≡ Done c → SoundAnswer (left a (held p q n l no_counts)) → Sound (held p q n l c)
+module _ (a : Outcome Counts) (p : List Float) (q n l : List ℕ) where
+  pub done_sound : (c : Counts) → a ≡ gives c → SoundAnswer (left a (held p q n l no_counts)) → Sound (held p q n l c)
   done_sound c e h = rw e at h
 
-  pub done_text : (c : Counts) → a ≡ Done c → state_text (reading (held p q n l c)) ≡ answer_text (left a (held p q n l no_counts))
+  pub done_text : (c : Counts) → a ≡ gives c → state_text (reading (held p q n l c)) ≡ answer_text (left a (held p q n l no_counts))
   unfolding answer_text
   done_text c e = rw e
 
-  pub refused_text_lem : (k : ℕ) → a ≡ Refused k → refused_text k ≡ answer_text (left a (held p q n l no_counts))
+  pub refused_text_lem : (k : ℕ) → a ≡ refused k → refused_text k ≡ answer_text (left a (held p q n l no_counts))
   unfolding answer_text
   refused_text_lem k e = rw e
 
 -- what a job or a call gives, written and answered, has the text of its state
-pub written_text : (s : State) → length s.points % 2 ≡ 0 → answer_text (record { answer = Done (counts_of s); held = written s }) ≡ state_text s
+pub written_text : (s : State) → length s.points % 2 ≡ 0 → answer_text (record { answer = gives (counts_of s); held = written s }) ≡ state_text s
 unfolding answer_text
 written_text s even = ap state_text (reading-written s even)
 
@@ -108,6 +102,6 @@ written_text s even = ap state_text (reading-written s even)
 pub sound_answer : (x : Left) → lengths x.held ≡ lent → (number_of x ≡ 0 → wrong_state x.held ≡ false) → SoundAnswer x
 sound_answer x long back = go x.answer x.held long back
   where
-    go : (a : Answer) (b : Held) → lengths b ≡ lent → (answer_number a ≡ 0 → wrong_state b ≡ false) → SoundHeld a b
-    go (Done c) b l f = not-refused b l (f refl)
-    go (Refused n) b l f = tt
+    go : (a : Outcome Counts) (b : Held) → lengths b ≡ lent → (answer_number a ≡ 0 → wrong_state b ≡ false) → SoundHeld a b
+    go (gives c) b l f = not-refused b l (f refl)
+    go (refused n) b l f = tt

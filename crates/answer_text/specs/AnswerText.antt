@@ -1,8 +1,7 @@
 -- The text of an answer, as document 01 has it ("Plates to check"): lines end in LF, fields are parted by tabs. Definitions only.
 use Rattle.std.specs.Prelude.{ℕ, List, [], ◌∷◌, ◌++◌, map, Float}
+use Rattle.state.specs.Outcome.{Outcome, refused, gives}
 use Rattle.state.specs.declared.Counts.{Counts}
-use Rattle.state.specs.declared.Answer.{Answer}
-use Rattle.state.specs.declared.Answer.TheVariants.{Done, Refused}
 use Rattle.state.specs.State.{State, Held, quad_nodes, counts_of, reading}
 use Rattle.state.specs.Call.{Left}
 use Rattle.text.specs.Decimal.{decimal_text}
@@ -51,9 +50,9 @@ state_text s =
 unfoldable pub refused_text : ℕ → List ℕ
 refused_text n = line_text (114 ∷ 101 ∷ 102 ∷ 117 ∷ 115 ∷ 101 ∷ 100 ∷ []) (n ∷ [])
 
-abbrev pub text_of : Answer → Held → List ℕ
-text_of (Done c) b = state_text (reading b)
-text_of (Refused n) b = refused_text n
+abbrev pub text_of : Outcome Counts → Held → List ℕ
+text_of (gives c) b = state_text (reading b)
+text_of (refused n) b = refused_text n
 
 unfoldable pub answer_text : Left → List ℕ
 answer_text x = text_of x.answer x.held

@@ -1,7 +1,7 @@
 -- What the functions that put an answer's text ask: sound buffers for a state, and room for every text. Definitions only.
 use Rattle.std.specs.Prelude.{ℕ}
-use Rattle.state.specs.declared.Answer.{Answer}
-use Rattle.state.specs.declared.Answer.TheVariants.{Done, Refused}
+use Rattle.state.specs.declared.Counts.{Counts}
+use Rattle.state.specs.Outcome.{Outcome, refused, gives}
 use Rattle.state.specs.State.{Held}
 use Rattle.state.specs.Call.{Left}
 use Rattle.state.specs.Sound.{Sound}
@@ -11,9 +11,9 @@ use Rattle.state.specs.Sound.{Sound}
 abbrev pub text_limit : ℕ
 text_limit = 266445
 
-abbrev pub SoundHeld : Answer → Held → Type 0
-SoundHeld (Done c) b = Sound b
-SoundHeld (Refused n) b = Unit
+abbrev pub SoundHeld : Outcome Counts → Held → Type 0
+SoundHeld (gives c) b = Sound b
+SoundHeld (refused n) b = Unit
 
 abbrev pub SoundAnswer : Left → Type 0
 SoundAnswer x = SoundHeld x.answer x.held

@@ -1,25 +1,49 @@
 // The states that calls are made on.
-use input::Options;
-use state::{Answer, Counts};
+ghost use Rattle.std.specs.Prelude.{◌≡◌};
+ghost use Rattle.state.specs.State.{no_counts};
+ghost use Rattle.state.specs.Call as buffers;
+ghost use Rattle.state.specs.Lent.{Same, held_in, lengths_in};
+ghost use Rattle.state.specs.Refusals.{answered};
+ghost use Rattle.input.specs.Job.{job_of};
+ghost use Rattle.calls.specs.Calls as states;
+
+use input::Job;
+use state::{Counts, Lent, Refusal, put_all, put_numbers};
+
+// What a letter stands for: the sampled loops, the whole job, or one front of so many nodes.
+#[derive(Clone, Copy)]
+pub enum Start {
+    Sampled,
+    Whole,
+    OneFront(u8),
+}
+
+impl From<u8> for Start {
+    ghost from_gives = { λ letter start. start ≡ states.start_of letter };
+
+    fn from(letter: u8) -> Start {
+        match letter {
+            b's' => Start::Sampled,
+            b'j' => Start::Whole,
+            _ => Start::OneFront(letter % 16),
+        }
+    }
+}
 
 // The outline's points, with one front of the first `n`.
-fn one_front(
-    coords: &[f64],
-    n: usize,
-    points: &mut [f64; 8192],
-    front_nodes: &mut [u16; 2048],
-    front_lengths: &mut [u16; 16],
-) -> Answer {
-    if 2048 < n {
-        return Answer::Refused(1);
-    }
+fn one_front(job: &Job, n: u8, lent: &mut Lent) -> Result<Counts, Refusal>
+    requires { lengths_in lent.old ≡ buffers.lent }
+    ensures same { Same lent.old lent.new }
+    ensures left { buffers.left (answered result) (held_in lent.new no_counts) ≡ states.one_front (job_of job.now) n (held_in lent.old no_counts) }
+{
+    let coords = job.coords;
     if 8192 < coords.len() {
-        return Answer::Refused(1);
+        return Err(Refusal::Shape);
     }
-    state::copy_points(points, 0, coords);
-    state::put_numbers(front_nodes, 0, n, 0);
-    front_lengths[0] = state::narrow(n);
-    Answer::Done(Counts {
+    put_all(lent.points, 0, coords);
+    put_numbers(lent.front_nodes, 0, usize::from(n), 0);
+    lent.front_lengths[0] = u16::from(n);
+    Ok(Counts {
         points: coords.len() / 2,
         quads: 0,
         fronts: 1,
@@ -31,47 +55,16 @@ fn one_front(
     })
 }
 
-// What sampling makes of a job for `s`, what the whole job leaves for `j`, and for a digit one front of so many nodes.
-pub fn begin(
-    letter: u8,
-    coords: &[f64],
-    loops: &[u16],
-    h: f64,
-    options: Options,
-    points: &mut [f64; 8192],
-    quads: &mut [u16; 16384],
-    front_nodes: &mut [u16; 2048],
-    front_lengths: &mut [u16; 16],
-) -> Answer {
-    if letter == b's' {
-        return sampling::sample(
-            coords,
-            loops,
-            h,
-            options,
-            points,
-            quads,
-            front_nodes,
-            front_lengths,
-        );
+impl Start {
+    pub fn begin(self, job: &Job, lent: &mut Lent) -> Result<Counts, Refusal>
+        requires { lengths_in lent.old ≡ buffers.lent }
+        ensures same { Same lent.old lent.new }
+        ensures left { buffers.left (answered result) (held_in lent.new no_counts) ≡ states.begun (job_of job.now) self (held_in lent.old no_counts) }
+    {
+        match self {
+            Start::Sampled => sampling::sample(job, lent),
+            Start::Whole => job::job(job, lent),
+            Start::OneFront(n) => one_front(job, n, lent),
+        }
     }
-    if letter == b'j' {
-        return job::job(
-            coords,
-            loops,
-            h,
-            options,
-            points,
-            quads,
-            front_nodes,
-            front_lengths,
-        );
-    }
-    one_front(
-        coords,
-        (letter % 16) as usize,
-        points,
-        front_nodes,
-        front_lengths,
-    )
 }

@@ -1,5 +1,5 @@
 -- The line of words under a plate, and a picture of words alone. Definitions only.
-use Rattle.std.specs.Prelude.{ℕ, cond, List, [], ◌∷◌, eqb, Float}
+use Rattle.std.specs.Prelude.{ℕ, cond, List, [], ◌∷◌, ◌++◌, eqb, Float}
 use Rattle.state.specs.State.{joined}
 use Rattle.state.specs.declared.Counts.{Counts}
 use Rattle.text.specs.Decimal.{decimal_text}
@@ -65,6 +65,10 @@ size_sentence n =
     10 (ascii "the outline needs more than 2,048 nodes at this size.")
     11 (ascii "the text is not that of a job.")
     21 (ascii "the plate needs more than 4,096 points or tiles at this size.")
+
+-- the three in one
+unfoldable pub sentence : ℕ → List ℕ
+sentence n = input_sentence n ++ loop_sentence n ++ size_sentence n
 
 unfoldable pub refused_caption : ℕ → List ℕ
 refused_caption n = joined (ascii "refused " ∷ decimal_text n ∷ ascii ": " ∷ input_sentence n ∷ loop_sentence n ∷ size_sentence n ∷ [])

@@ -8,16 +8,14 @@ use borrow.Author.Tests.{lt-ltb, le-ltb}
 use lib.Ieee.{Float}
 use lib.ListN.{length, get_or, take, length-append}
 use lib.Seq.{sets, length-take-le}
-use Rattle.geometry.specs.Domain.{sum_of}
+use Rattle.state.specs.Outcome.{refused, gives}
 use Rattle.state.specs.declared.Counts.{Counts}
-use Rattle.state.specs.declared.Answer.TheVariants as Answers
 use Rattle.state.specs.Limits.{quad_limit, quads_length}
 use Rattle.state.specs.State.{State, Quad, Held, cut, joined, nodes, padded, reading, written, counts_of}
 use Rattle.state.specs.Call.{held, left, state_left}
-use Rattle.state.specs.Sound.{Sound, sizes_of}
-use Rattle.state.proofs.Cutting.{length_cut}
+use Rattle.state.specs.Sound.{Sound}
 use Rattle.state.proofs.Growing.{extended, numbers, numbers-append, length-numbers}
-use Rattle.state.proofs.Reading.{Counted, sound_counted, sizes_long, points_long_lem, nodes-read, quads_read, quad-nodes-read}
+use Rattle.state.proofs.Reading.{Counted, sound_counted, fronts_read, nodes-read, quads_read, quad-nodes-read}
 use Rattle.state.proofs.Zeros.{same_held, same_state, still_sound, quads_held}
 use Rattle.rules.specs.Closing.{closure, closed, closings}
 use Rattle.closing_search.specs.Finding.{closures_of, stays}
@@ -25,7 +23,7 @@ use Rattle.closing.specs.Keeping.{kept_by}
 use Rattle.closing.proofs.Marked.{closures_all, kept_all}
 
 -- buffers and counts that are a state, written
-done_is : (s : State) (l : Held) → l ≡ written s → left (Answers.Done l.counts) l ≡ record { answer = Answers.Done (counts_of s); held = written s }
+done_is : (s : State) (l : Held) → l ≡ written s → left (gives l.counts) l ≡ record { answer = gives (counts_of s); held = written s }
 unfolding written
 done_is s l f = rw f
 
@@ -33,35 +31,25 @@ module _ (b : Held) (sound : Sound b) (limit : Float) where
   abbrev counted : Counted b
   counted = sound_counted b sound
 
-  abbrev pub points : List Float
-  points = take (b.counts.points * 2) b.points
-
-  abbrev pub fronts : List (List ℕ)
-  fronts = cut (sizes_of b) b.front_nodes
-
   -- the quads that close the fronts, as the code finds them
   abbrev pub added : List Quad
-  added = closures_of limit points fronts (length (sizes_of b))
-
-  pub read_below : (i : ℕ) → i < sum_of (sizes_of b) → get_or b.front_nodes i 0 * 2 + 1 < length points
-  read_below i l = let e = points_long_lem b counted in let g = sound.below i l in omega arith
+  added = closures_of limit (reading b).points (reading b).fronts b.counts.fronts
 
   added_is : added ≡ joined (map (closure limit (reading b).points) (reading b).fronts)
-  unfolding reading
-  added_is = closures_all limit points fronts _ (sym (length_cut (sizes_of b) b.front_nodes))
+  added_is = closures_all limit (reading b).points (reading b).fronts _ (sym (fronts_read b counted))
 
   quads_after : length (closed limit (reading b)).quads ≡ b.counts.quads + length added
   unfolding closed
   quads_after = rw (length-append (reading b).quads _, quads_read b counted, added_is)
 
-  pub full : (n : ℕ) → n ≡ length added → quad_limit < b.counts.quads + n → left (Answers.Refused 21) b ≡ state_left b (closings limit (reading b))
+  pub full : (n : ℕ) → n ≡ length added → quad_limit < b.counts.quads + n → left (refused 21) b ≡ state_left b (closings limit (reading b))
   unfolding closings state_left
   full n e h = rw (quads_after, ← e, lt-ltb _ _ h)
 
   -- ---- P, Q, N and L are the buffers with zeros behind the state; the marks say which fronts are kept
 
   module _ (P : List Float) (Q N L : List ℕ) (clear : held P Q N L b.counts ≡ written (reading b)) (n : ℕ) (hn : n ≡ length added) (room : b.counts.quads + n ≤ quad_limit)
-      (marks : List Bool) (long : length marks ≡ b.counts.fronts) (right : (i : ℕ) → i < length (sizes_of b) → get_or marks i false ≡ stays limit points (get_or fronts i [])) where
+      (marks : List Bool) (long : length marks ≡ b.counts.fronts) (right : (i : ℕ) → i < b.counts.fronts → get_or marks i false ≡ stays limit (reading b).points (get_or (reading b).fronts i [])) where
     abbrev after : State
     after = closed limit (reading b)
 
@@ -71,16 +59,13 @@ module _ (b : Held) (sound : Sound b) (limit : Float) where
     clear_sound : Sound (held P Q N L b.counts)
     clear_sound = still_sound b sound (held P Q N L b.counts) clear
 
-    fronts_same : cut (take b.counts.fronts L) N ≡ fronts
+    fronts_same : cut (take b.counts.fronts L) N ≡ (reading b).fronts
     unfolding reading
     fronts_same = ap (λ (s : State). s.fronts) (same_state b sound (held P Q N L b.counts) clear)
 
-    fronts_long : length fronts ≡ b.counts.fronts
-    fronts_long = length_cut (sizes_of b) b.front_nodes ∙ sizes_long b counted
-
     kept_is : kept ≡ after.fronts
     unfolding closed reading
-    kept_is = rw (long, fronts_same) (rw fronts_long at (kept_all limit points fronts marks (λ i h. right i (rw length_cut at h))))
+    kept_is = rw (long, fronts_same) (rw (fronts_read b counted) at (kept_all limit (reading b).points (reading b).fronts marks (λ i h. right i (rw (fronts_read b counted) at h))))
 
     points_field : P ≡ (written after).points
     unfolding written closed
@@ -131,7 +116,7 @@ module _ (b : Held) (sound : Sound b) (limit : Float) where
     counts_field k e = rw (points_count, quads_after, ← hn, ← kept_is, ← e, row_quads_after, others_after.0, others_after.1, others_after.2, others_after.3)
 
     pub closes : (Q' N' L' : List ℕ) (k : ℕ) → Q' ≡ sets Q (b.counts.quads * 4) (numbers added) → k ≡ length kept → N' ≡ padded (length N) 0 (joined kept) → L' ≡ padded (length L) 0 (map length kept)
-        → left (Answers.Done (counts-after k)) (held P Q' N' L' b.counts) ≡ state_left b (closings limit (reading b))
+        → left (gives (counts-after k)) (held P Q' N' L' b.counts) ≡ state_left b (closings limit (reading b))
     unfolding closings state_left
     closes Q' N' L' k h_q hk h_n h_l =
         rw (quads_after, ← hn, le-ltb _ _ room) (done_is after (held P Q' N' L' (counts-after k)) (same_held points_field (h_q ∙ quads_field) (h_n ∙ nodes-field) (h_l ∙ lengths-field) (counts_field k hk)))

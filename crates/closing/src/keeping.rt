@@ -1,5 +1,5 @@
 // The fronts that are kept, moved together in the lent buffers.
-ghost use Rattle.std.specs.Prelude.{◌≡◌, cond, [], ◌∷◌, map, ◌+◌, ◌<◌, ◌≤◌, drop, length, take};
+ghost use Rattle.std.specs.Prelude.{◌≡◌, map, ◌+◌, ◌<◌, ◌≤◌, drop, length, set, take};
 ghost use Rattle.std.proofs.lemmas.List.Edits.{sets};
 ghost use Rattle.geometry.specs.Domain.{sum_of};
 ghost use Rattle.state.specs.State.{cut, joined, padded};
@@ -8,28 +8,6 @@ ghost use Rattle.closing.specs.Keeping.{kept_by};
 use geometry::wide;
 use state::clear_nodes_from;
 
-// Numbers written behind others.
-pub fn copy_numbers(numbers: &mut [u16], at: usize, more: &[u16])
-    requires { at + length more.now ≤ length numbers.old }
-    ensures { numbers.new ≡ sets numbers.old at more.now }
-{
-    let mut i = 0usize;
-    while i < more.len() {
-        numbers[at + i] = more[i];
-        i += 1;
-    }
-}
-
-// The `n` nodes from place `from` on, moved down to place `to`; the two parts may overlap.
-fn move_down(nodes: &mut [u16], to: usize, from: usize, n: usize)
-    requires { (to ≤ from) × (from + n ≤ length nodes.old) }
-    ensures { nodes.new ≡ sets nodes.old to (take n (drop from nodes.old)) }
-{
-    for i in 0..n {
-        nodes[to + i] = nodes[from + i];
-    }
-}
-
 // Where the next kept front goes: its place among the nodes, and among the lengths.
 #[derive(Clone, Copy)]
 pub struct Place {
@@ -37,9 +15,8 @@ pub struct Place {
     pub front: usize,
 }
 
-// A front of `len` nodes from place `start` on, moved to its place if it is kept; answers the place of the next.
-fn keep_front(
-    keep: bool,
+// A front of `len` nodes from place `start` on, moved to its place; answers the place of the next.
+fn move_front(
     front_nodes: &mut [u16],
     front_lengths: &mut [u16],
     start: usize,
@@ -47,21 +24,16 @@ fn keep_front(
     place: Place,
 ) -> Place
     requires { (place.node ≤ start) × (start + len ≤ length front_nodes.old) × (place.front < length front_lengths.old) }
-    ensures value { result ≡ cond keep (record { node = place.node + len; front = place.front + 1 }) place }
-    ensures front_nodes_after { front_nodes.new ≡ sets front_nodes.old place.node (cond keep (take len (drop start front_nodes.old)) []) }
-    ensures front_lengths_after { front_lengths.new ≡ sets front_lengths.old place.front (cond keep (len ∷ []) []) }
+    ensures value { result ≡ record { node = place.node + len; front = place.front + 1 } }
+    ensures front_nodes_after { front_nodes.new ≡ sets front_nodes.old place.node (take len (drop start front_nodes.old)) }
+    ensures front_lengths_after { front_lengths.new ≡ set front_lengths.old place.front len }
 {
-    if !keep {
-        return place;
-    }
-    let node = place.node;
-    let front = place.front;
     let n = wide(len);
-    move_down(front_nodes, node, start, n);
-    front_lengths[front] = len;
+    front_nodes.copy_within(start..start + n, place.node);
+    front_lengths[place.front] = len;
     Place {
-        node: node + n,
-        front: front + 1,
+        node: place.node + n,
+        front: place.front + 1,
     }
 }
 
@@ -73,10 +45,12 @@ pub fn keep_fronts(front_nodes: &mut [u16], front_lengths: &mut [u16], kept: &[b
     ensures front_lengths_after { front_lengths.new ≡ padded (length front_lengths.old) 0 (map length (kept_by kept.now (cut (take (length kept.now) front_lengths.old) front_nodes.old) (length kept.now))) }
 {
     let mut place = Place { node: 0, front: 0 };
-    let mut start = 0usize;
-    for li in 0..kept.len() {
+    let mut start = 0;
+    for (li, &keep) in kept.iter().enumerate() {
         let len = front_lengths[li];
-        place = keep_front(kept[li], front_nodes, front_lengths, start, len, place);
+        if keep {
+            place = move_front(front_nodes, front_lengths, start, len, place);
+        }
         start += wide(len);
     }
     clear_nodes_from(front_nodes, place.node);

@@ -8,9 +8,11 @@ use native.Mathlib.Numerals.{add-one}
 use native.Mathlib.Omega.{arith}
 use lib.Dec.{eqb}
 use lib.Ieee.{Float}
-use lib.ListN.{length, get_or, take, set, length-append}
-use lib.Seq.{sets, take-suc}
+use lib.ListN.{length, get_or, take, drop, set, length-append, length-drop}
+use lib.Seq.{sets, take-suc, drop-drop}
+use Rattle.geometry.specs.Domain.{sum_of}
 use Rattle.state.specs.State.{Quad, quad_nodes, joined}
+use Rattle.state.proofs.Cutting.{total_more, total_within}
 use Rattle.state.proofs.Growing.{joined-append, numbers, numbers-append, length-numbers}
 use Rattle.state.proofs.Stores.{sets-append, table_step}
 use Rattle.rules.specs.Closing.{closure}
@@ -26,6 +28,15 @@ gather_suc g xs i z h =
     ∙ ap joined (map-append g (take i xs) (get_or xs i z ∷ []))
     ∙ joined-append (map g (take i xs)) (g (get_or xs i z) ∷ [])
     ∙ ap (λ t. joined (map g (take i xs)) ++ t) (append-nil (g (get_or xs i z)))
+
+-- ---- the nodes that are ahead, behind those of the first k fronts
+
+module _ (l xs : List ℕ) (k : ℕ) (h : k < length l) (fits : sum_of l ≤ length xs) (ahead : List ℕ) (rest : ahead ≡ drop (sum_of (take k l)) xs) where
+  pub front_within : get_or l k 0 ≤ length ahead
+  front_within = let w = total_within l k h in rw rest (simp length-drop (omega arith))
+
+  pub rest_more : drop (get_or l k 0) ahead ≡ drop (sum_of (take (k + 1) l)) xs
+  rest_more = rw (rest, drop-drop, total_more l k h)
 
 -- ---- the quads of one front more
 

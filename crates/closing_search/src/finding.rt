@@ -7,10 +7,12 @@ ghost use Rattle.state.specs.State.{cut, joined, quad_nodes};
 ghost use Rattle.closing_search.specs.Closures.{closure_quads};
 ghost use Rattle.closing_search.specs.Finding.{closures_of, stays};
 
-use crate::front::{Closure, close_front, count_of};
-use state::{front_at, nodes_of, put_quad};
+use crate::front::{Closure, close_front};
+use geometry::wide;
+use state::put_quad;
 
 // The quads of a closure, written from place `at` on.
+#[tactic(auto, using(crate::proofs::Gathering::two_quads), unfolding(state::specs::State::joined))]
 fn put_closure(added: &mut [u16], at: usize, closure: Closure)
     requires { at + 8 ≤ length added.old }
     ensures { added.new ≡ sets added.old at (joined (map quad_nodes (closure_quads closure))) }
@@ -43,16 +45,16 @@ pub fn find_closures(
         × (result ≤ length lengths.now * 2) }
     ensures by_index { (i : ℕ) → i < length lengths.now → get_or kept.new i false ≡ stays limit points.now (get_or (cut lengths.now front_nodes.now) i []) }
 {
-    let mut count = 0usize;
-    for li in 0..lengths.len() {
-        let front = front_at(lengths, li);
-        let start = front.start;
-        let len = front.len;
-        let closure = close_front(points, nodes_of(front_nodes, start, len), limit);
+    let mut count = 0;
+    let mut ahead = front_nodes;
+    for (li, &len) in lengths.iter().enumerate() {
+        let (nodes, behind) = ahead.split_at(wide(len));
+        let closure = close_front(points, nodes, limit);
         put_closure(added, count * 4, closure);
-        let n = count_of(closure);
+        let n = closure.count();
         kept[li] = n == 0;
         count += n;
+        ahead = behind;
     }
     count
 }

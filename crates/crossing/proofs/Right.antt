@@ -1,6 +1,6 @@
 -- A side whose two ends are right of a line, or none of them, does not cross it.
 use mathlib.Core.Path.{◌≡◌, refl, sym}
-use mathlib.Core.Bool.{Bool, true, false, beq, true≢false}
+use mathlib.Core.Bool.{Bool, true, false, not, beq, true≢false}
 use Prim.Native.Nat.{ℕ}
 use lib.IntN.{ℤ}
 use lib.Ieee.{Float, nan, inf, fin, lt, neg, round}
@@ -28,9 +28,9 @@ unfolding apart
 not_apart x y true hx hy = rw (hx, hy, below_is_not_above x hx, below_is_not_above y hy)
 not_apart x y false hx hy = rw (hx, hy, and_false (lt (decimal 1 12) x))
 
-pub not_crossing : (u v : Bool) (a b c d : Point) → (u ≡ right_of a b c) × (v ≡ right_of a b d) → beq u v ≡ true → false ≡ segments_cross a b c d
+pub not_crossing : (u v : Bool) (a b c d : Point) → (u ≡ right_of a b c) × (v ≡ right_of a b d) → not (beq u v) ≡ false → false ≡ segments_cross a b c d
 unfolding segments_cross
 not_crossing true true a b c d h e = rw (not_apart (turn a b c) (turn a b d) true (sym h.0) (sym h.1))
 not_crossing false false a b c d h e = rw (not_apart (turn a b c) (turn a b d) false (sym h.0) (sym h.1))
-not_crossing true false a b c d h e = absurd (true≢false (sym e))
-not_crossing false true a b c d h e = absurd (true≢false (sym e))
+not_crossing true false a b c d h e = absurd (true≢false e)
+not_crossing false true a b c d h e = absurd (true≢false e)

@@ -74,6 +74,14 @@ module _ (r : Ring) where
       let f : i + 1 + (j - (i + 1)) ≡ j = omega arith in
       rw (e, f) h
 
+  -- a pair of sides that are no neighbours, as the code tests it
+  pub pair_tested : (i j : ℕ) {a b c d : Point} {f : Bool} → i + 2 ≤ j → j + 1 < r.size → (search_side r i (j - (i + 1)) (search r i)).crossed ≡ false → f ≡ segments_cross a b c d
+      → a ≡ r.at i → b ≡ r.at (i + 1) → c ≡ r.at j → d ≡ r.at (j + 1) → (search_side r i (j + 1 - (i + 1)) (search r i)).crossed ≡ f
+  pair_tested i j l m h hf ha hb hc hd =
+      let next-i = next_inner r.size i {k = next r.size i} (omega arith) refl (omega arith) in
+      let next-j = next_inner r.size j {k = next r.size j} (omega arith) refl m in
+      side_more i j (search r i) _ (omega arith) (tested i j _ _ h (not_neighbours r.size i j l m) (sides-cross i j (i + 1) (j + 1) _ _ _ _ _ hf ha hb (sym next-i) hc hd (sym next-j)))
+
   side_stays : (i k d : ℕ) (s : Search) → (search_side r i k s).crossed ≡ true → (search_side r i (k + d) s).crossed ≡ true
   unfolding search_side
   side_stays i k zero s h = rw add-zero h

@@ -19,10 +19,7 @@ fn cross_between(a: Point, b: Point, c: Point, d: Point, right_c: bool, right_d:
     requires { (right_c ≡ right_of a b c) × (right_d ≡ right_of a b d) }
     ensures { result ≡ segments_cross a b c d }
 {
-    if right_c == right_d {
-        return false;
-    }
-    geometry::segments_cross(a, b, c, d)
+    right_c != right_d && geometry::segments_cross(a, b, c, d)
 }
 
 // Whether side `i` crosses the closing side, which is the first side's neighbour.
@@ -41,7 +38,7 @@ fn crosses_closing(ring: &[f64], n: usize, i: usize) -> bool
 }
 
 // Whether two sides of the ring of the first `n` points cross. A pair is met once, and neighbours are not met. Both loops end at the
-// first crossing. The test of a side's end is kept for the next side, and a side that is not met by the line of side `i` costs that
+// first crossing, by a label as document 01 has it. The test of a side's end is kept for the next side, and a side that is not met by the line of side `i` costs that
 // test alone.
 fn sides_cross(ring: &[f64], n: usize) -> bool
     requires { (3 ≤ n) × (n * 2 ≤ length ring.now) }
@@ -76,8 +73,5 @@ pub fn is_simple(ring: &[f64], n: usize) -> bool
     requires { n * 2 ≤ length ring.now }
     ensures { result ≡ is_simple (ring_of ring.now n) }
 {
-    if n < 3 {
-        return false;
-    }
-    !sides_cross(ring, n)
+    3 <= n && !sides_cross(ring, n)
 }

@@ -2,11 +2,9 @@
 // be read, nothing is printed there, and standard error says so; the same when the picture could not be written whole.
 #![tactic(auto)]
 
-use standard::Input;
-
 fn main(rt: HostRuntime) {
     let mut input = standard::input_buffer();
-    let Input::Bytes(n) = standard::read_input(&mut rt.stdin(), &mut input) else {
+    let Ok(n) = standard::read_input(&mut rt.stdin(), &mut input) else {
         standard::say_unread(&rt);
         return;
     };

@@ -7,6 +7,10 @@ ghost use Rattle.sampling.specs.Sample.{sample_call};
 ghost use Rattle.rules.specs.Calls.{job_call};
 ghost use Rattle.exports_counts.specs.Calls.{job_passed, options_of, passed};
 
+use exports_counts::{clear_counts, no_counts, options_of, put_answer};
+use input::Job;
+use state::Lent;
+
 // The sampled loops as fronts, or zeros in every buffer, whatever the buffers held.
 #[unsafe(no_mangle)]
 pub extern "C" fn pave_sample(
@@ -31,12 +35,18 @@ pub extern "C" fn pave_sample(
         (lengths_of (length points.old) (length quads.old) (length front_nodes.old) (length front_lengths.old)))
         (lengths_of (length points.old) (length quads.old) (length front_nodes.old) (length front_lengths.old)) (length counts.old) }
 {
+    let mut lent = Lent {
+        points,
+        quads,
+        front_nodes,
+        front_lengths,
+    };
     if counts.len() != 8 {
-        state::clear_all(points, quads, front_nodes, front_lengths);
-        exports_counts::clear_counts(counts);
+        lent.clear();
+        clear_counts(counts);
         return 1;
     }
-    let options = exports_counts::options_of(
+    let options = options_of(
         corner_margin,
         min_edge_fraction,
         front_gap,
@@ -44,17 +54,14 @@ pub extern "C" fn pave_sample(
         seam,
         corner_limit,
     );
-    let answer = sampling::sample(
+    let job = Job {
         coords,
         loop_lengths,
         h,
         options,
-        points,
-        quads,
-        front_nodes,
-        front_lengths,
-    );
-    exports_counts::put_answer(counts, exports_counts::no_counts(), answer)
+    };
+    let answer = sampling::sample(&job, &mut lent);
+    put_answer(counts, no_counts(), answer)
 }
 
 // The whole job: sampling, passes of rows, closings; or zeros in every buffer, whatever the buffers held.
@@ -81,12 +88,18 @@ pub extern "C" fn pave_job(
         (lengths_of (length points.old) (length quads.old) (length front_nodes.old) (length front_lengths.old)))
         (lengths_of (length points.old) (length quads.old) (length front_nodes.old) (length front_lengths.old)) (length counts.old) }
 {
+    let mut lent = Lent {
+        points,
+        quads,
+        front_nodes,
+        front_lengths,
+    };
     if counts.len() != 8 {
-        state::clear_all(points, quads, front_nodes, front_lengths);
-        exports_counts::clear_counts(counts);
+        lent.clear();
+        clear_counts(counts);
         return 1;
     }
-    let options = exports_counts::options_of(
+    let options = options_of(
         corner_margin,
         min_edge_fraction,
         front_gap,
@@ -94,15 +107,12 @@ pub extern "C" fn pave_job(
         seam,
         corner_limit,
     );
-    let answer = job::job(
+    let job = Job {
         coords,
         loop_lengths,
         h,
         options,
-        points,
-        quads,
-        front_nodes,
-        front_lengths,
-    );
-    exports_counts::put_answer(counts, exports_counts::no_counts(), answer)
+    };
+    let answer = job::job(&job, &mut lent);
+    put_answer(counts, no_counts(), answer)
 }

@@ -5,14 +5,14 @@ use Prim.Native.Nat.{ℕ}
 use borrow.Author.Tests.{eq-eqb, ne_eqb}
 use lib.Ieee.{Float}
 use lib.ListN.{length, replicate}
+use Rattle.state.specs.Outcome.{Outcome}
 use Rattle.state.specs.declared.Counts.{Counts}
-use Rattle.state.specs.declared.Answer.{Answer}
 use Rattle.state.specs.State.{Held, Lengths, no_counts, zeros}
 use Rattle.state.specs.Call.{Left, answer_counts, answer_number, held, left}
 use Rattle.exports_counts.specs.Calls.{count_list, counts_from, passed, passed_as, passed_with, job_passed, state_passed}
 
 -- the number and the counts of an answer, put beside the buffers that it left
-answered : {number : ℕ} {C : List ℕ} (p : List Float) (q n f : List ℕ) (k : Counts) (r : Answer) → (number ≡ answer_number r) × (C ≡ count_list (answer_counts k r))
+answered : {number : ℕ} {C : List ℕ} (p : List Float) (q n f : List ℕ) (k : Counts) (r : Outcome Counts) → (number ≡ answer_number r) × (C ≡ count_list (answer_counts k r))
     → passed number p q n f C ≡ passed_as (left r (held p q n f k))
 answered p q n f k r e = rw (e.0, e.1)
 
@@ -23,7 +23,7 @@ module _ {O : Type 0} (call : O → Left) (o o' : O) (same : o ≡ o') (l : Leng
   unfolding job_passed
   job_short g z e = rw (ne_eqb (length c) 8 g, e) (ap (λ (b : Held). passed_with 1 b (replicate (length c) 0)) z)
 
-  pub job_answered : {number : ℕ} {C : List ℕ} → length c ≡ 8 → (k : Counts) → k ≡ no_counts → (r : Answer) → left r (held p q n f no_counts) ≡ call o
+  pub job_answered : {number : ℕ} {C : List ℕ} → length c ≡ 8 → (k : Counts) → k ≡ no_counts → (r : Outcome Counts) → left r (held p q n f no_counts) ≡ call o
       → (number ≡ answer_number r) × (C ≡ count_list (answer_counts k r)) → passed number p q n f C ≡ job_passed (call o') l (length c)
   unfolding job_passed
   job_answered eight k none r made e = rw (eq-eqb (length c) 8 eight, ← same, ← made) (answered p q n f no_counts r (rw none at e))
@@ -35,7 +35,7 @@ module _ {O : Type 0} (call : O → Held → Left) (o o' : O) (same : o ≡ o') 
   unfolding state_passed
   state_short g = rw (ne_eqb (length c) 8 g)
 
-  pub state_answered : {number : ℕ} {C : List ℕ} (p : List Float) (q n f : List ℕ) → length c ≡ 8 → (k : Counts) → k ≡ counts_from c → (r : Answer)
+  pub state_answered : {number : ℕ} {C : List ℕ} (p : List Float) (q n f : List ℕ) → length c ≡ 8 → (k : Counts) → k ≡ counts_from c → (r : Outcome Counts)
       → left r (held p q n f k) ≡ call o (held p₀ q₀ n₀ f₀ k) → (number ≡ answer_number r) × (C ≡ count_list (answer_counts k r)) → passed number p q n f C ≡ state_passed (call o') p₀ q₀ n₀ f₀ c
   unfolding state_passed
   state_answered p q n f eight k read r made e = rw (eq-eqb (length c) 8 eight, ← same, ← read, ← made) (answered p q n f k r e)

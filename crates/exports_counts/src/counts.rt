@@ -2,29 +2,37 @@
 ghost use Rattle.std.specs.Prelude.{◌≡◌, length, replicate};
 ghost use Rattle.state.specs.State.{no_counts};
 ghost use Rattle.state.specs.Call.{answer_counts, answer_number};
+ghost use Rattle.state.specs.Refusals.{answered};
 ghost use Rattle.exports_counts.specs.Calls.{count_list, counts_from};
 
-use state::{Answer, Counts};
-
-fn place(n: u64) -> usize
-    ensures { result ≡ n }
-{
-    n as usize
-}
+use state::{Counts, Refusal};
 
 pub fn counts_of(counts: &[u64]) -> Counts
     requires { length counts.now ≡ 8 }
     ensures { result ≡ counts_from counts.now }
 {
+    let &[
+        points,
+        quads,
+        fronts,
+        row_quads,
+        core_quads,
+        row_rounds,
+        passes_begun,
+        laid,
+    ] = counts
+    else {
+        unreachable!();
+    };
     Counts {
-        points: place(counts[0]),
-        quads: place(counts[1]),
-        fronts: place(counts[2]),
-        row_quads: place(counts[3]),
-        core_quads: place(counts[4]),
-        row_rounds: place(counts[5]),
-        passes_begun: place(counts[6]),
-        laid: place(counts[7]),
+        points: points as usize,
+        quads: quads as usize,
+        fronts: fronts as usize,
+        row_quads: row_quads as usize,
+        core_quads: core_quads as usize,
+        row_rounds: row_rounds as usize,
+        passes_begun: passes_begun as usize,
+        laid: laid as usize,
     }
 }
 
@@ -32,29 +40,31 @@ fn put_counts(counts: &mut [u64], after: Counts)
     requires { length counts.old ≡ 8 }
     ensures { counts.new ≡ count_list after }
 {
-    counts[0] = after.points as u64;
-    counts[1] = after.quads as u64;
-    counts[2] = after.fronts as u64;
-    counts[3] = after.row_quads as u64;
-    counts[4] = after.core_quads as u64;
-    counts[5] = after.row_rounds as u64;
-    counts[6] = after.passes_begun as u64;
-    counts[7] = after.laid as u64;
+    counts.copy_from_slice(&[
+        after.points as u64,
+        after.quads as u64,
+        after.fronts as u64,
+        after.row_quads as u64,
+        after.core_quads as u64,
+        after.row_rounds as u64,
+        after.passes_begun as u64,
+        after.laid as u64,
+    ]);
 }
 
 // The counts after an answer, `before` where it is a refusal, and its number.
-pub fn put_answer(counts: &mut [u64], before: Counts, answer: Answer) -> u32
+pub fn put_answer(counts: &mut [u64], before: Counts, answer: Result<Counts, Refusal>) -> u32
     requires { length counts.old ≡ 8 }
-    ensures { (result ≡ answer_number answer) × (counts.new ≡ count_list (answer_counts before answer)) }
+    ensures { (result ≡ answer_number (answered answer)) × (counts.new ≡ count_list (answer_counts before (answered answer))) }
 {
     match answer {
-        Answer::Done(after) => {
+        Ok(after) => {
             put_counts(counts, after);
             0
         }
-        Answer::Refused(number) => {
+        Err(refusal) => {
             put_counts(counts, before);
-            number
+            refusal.number()
         }
     }
 }
@@ -78,9 +88,5 @@ pub fn no_counts() -> Counts
 pub fn clear_counts(counts: &mut [u64])
     ensures { counts.new ≡ replicate (length counts.old) 0 }
 {
-    let mut count = 0usize;
-    while count < counts.len() {
-        counts[count] = 0;
-        count += 1;
-    }
+    counts.fill(0);
 }

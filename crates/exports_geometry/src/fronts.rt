@@ -9,14 +9,7 @@ use geometry::Point;
 fn few_below(numbers: &[u16], n: u16) -> bool
     ensures { result ≡ all_below n numbers.now }
 {
-    let mut i = 0usize;
-    while i < numbers.len() {
-        if n <= numbers[i] {
-            return false;
-        }
-        i += 1;
-    }
-    true
+    numbers.iter().all(|m| *m < n)
 }
 
 // Whether each of many numbers is below `n`, by a loop without branches, which the compiler turns into one of sixteen at a time.
@@ -24,10 +17,8 @@ fn many_below(numbers: &[u16], n: u16) -> bool
     ensures { result ≡ all_below n numbers.now }
 {
     let mut below = true;
-    let mut i = 0usize;
-    while i < numbers.len() {
-        below = below & (numbers[i] < n);
-        i += 1;
+    for m in numbers {
+        below &= *m < n;
     }
     below
 }
@@ -36,14 +27,14 @@ fn many_below(numbers: &[u16], n: u16) -> bool
 fn nodes_fit(points: &[f64], nodes: &[u16]) -> bool
     ensures { result ≡ nodes_fit points.now nodes.now }
 {
-    let n = points.len() / 2;
-    if n < 65536 {
-        if nodes.len() < 16 {
-            return few_below(nodes, n as u16);
-        }
-        return many_below(nodes, n as u16);
+    let Ok(n) = u16::try_from(points.len() / 2) else {
+        return true;
+    };
+    if nodes.len() < 16 {
+        few_below(nodes, n)
+    } else {
+        many_below(nodes, n)
     }
-    true
 }
 
 // The length of a front; NaN where a node number is not that of a point.
@@ -54,7 +45,7 @@ pub extern "C" fn pave_front_length(points: &[f64], nodes: &[u16]) -> f64
     if nodes_fit(points, nodes) {
         return geometry::front_length(points, nodes);
     }
-    0.0 / 0.0
+    f64::NAN
 }
 
 // The distance from (x, y) to a front; NaN where a node number is not that of a point.
@@ -65,7 +56,7 @@ pub extern "C" fn pave_front_distance(x: f64, y: f64, points: &[f64], nodes: &[u
     if nodes_fit(points, nodes) {
         return geometry::front_distance(Point { x, y }, points, nodes);
     }
-    0.0 / 0.0
+    f64::NAN
 }
 
 // Whether (x, y) is within a front; false where a node number is not that of a point.

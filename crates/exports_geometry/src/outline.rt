@@ -11,16 +11,14 @@ fn loops_fit(coords: &[f64], loop_lengths: &[u16]) -> bool
 {
     let mut left = coords.len() / 2;
     if loop_lengths.len() == 1 {
-        return geometry::wide(loop_lengths[0]) <= left;
+        return usize::from(loop_lengths[0]) <= left;
     }
-    let mut k = 0usize;
-    while k < loop_lengths.len() {
-        let n = geometry::wide(loop_lengths[k]);
+    for n in loop_lengths {
+        let n = usize::from(*n);
         if left < n {
             return false;
         }
         left -= n;
-        k += 1;
     }
     true
 }
@@ -33,7 +31,7 @@ pub extern "C" fn pave_domain_area(coords: &[f64], loop_lengths: &[u16]) -> f64
     if loops_fit(coords, loop_lengths) {
         return geometry::domain_area(coords, loop_lengths);
     }
-    0.0 / 0.0
+    f64::NAN
 }
 
 // Whether (x, y) is within the outer loop and outside every hole; false where the lengths ask for more points than there are.
@@ -60,5 +58,5 @@ pub extern "C" fn pave_distance_to_boundary(
     if loops_fit(coords, loop_lengths) {
         return geometry::distance_to_boundary(coords, loop_lengths, Point { x, y });
     }
-    0.0 / 0.0
+    f64::NAN
 }

@@ -6,6 +6,10 @@ ghost use Rattle.rules.specs.RowCall.{row_call};
 ghost use Rattle.rules.specs.Calls.{close_call, fan_call};
 ghost use Rattle.exports_counts.specs.Calls.{options_of, passed, state_passed};
 
+use exports_counts::{counts_of, options_of, put_answer};
+use input::Job;
+use state::Lent;
+
 // A row laid on front `front` of the state in the buffers, or nothing changed.
 #[unsafe(no_mangle)]
 pub extern "C" fn pave_row(
@@ -33,8 +37,8 @@ pub extern "C" fn pave_row(
     if counts.len() != 8 {
         return 1;
     }
-    let before = exports_counts::counts_of(counts);
-    let options = exports_counts::options_of(
+    let before = counts_of(counts);
+    let options = options_of(
         corner_margin,
         min_edge_fraction,
         front_gap,
@@ -42,19 +46,20 @@ pub extern "C" fn pave_row(
         seam,
         corner_limit,
     );
-    let answer = row::row(
+    let job = Job {
         coords,
         loop_lengths,
         h,
         options,
-        front,
+    };
+    let mut lent = Lent {
         points,
         quads,
         front_nodes,
         front_lengths,
-        before,
-    );
-    exports_counts::put_answer(counts, before, answer)
+    };
+    let answer = row::row(&job, front, &mut lent, before);
+    put_answer(counts, before, answer)
 }
 
 // The fronts of four and six nodes of the state in the buffers closed, or nothing changed.
@@ -83,8 +88,8 @@ pub extern "C" fn pave_close(
     if counts.len() != 8 {
         return 1;
     }
-    let before = exports_counts::counts_of(counts);
-    let options = exports_counts::options_of(
+    let before = counts_of(counts);
+    let options = options_of(
         corner_margin,
         min_edge_fraction,
         front_gap,
@@ -92,18 +97,20 @@ pub extern "C" fn pave_close(
         seam,
         corner_limit,
     );
-    let answer = closing::close(
+    let job = Job {
         coords,
         loop_lengths,
         h,
         options,
+    };
+    let mut lent = Lent {
         points,
         quads,
         front_nodes,
         front_lengths,
-        before,
-    );
-    exports_counts::put_answer(counts, before, answer)
+    };
+    let answer = closing::close(&job, &mut lent, before);
+    put_answer(counts, before, answer)
 }
 
 // The one front of the state in the buffers fanned, or nothing changed.
@@ -132,8 +139,8 @@ pub extern "C" fn pave_fan(
     if counts.len() != 8 {
         return 1;
     }
-    let before = exports_counts::counts_of(counts);
-    let options = exports_counts::options_of(
+    let before = counts_of(counts);
+    let options = options_of(
         corner_margin,
         min_edge_fraction,
         front_gap,
@@ -141,16 +148,18 @@ pub extern "C" fn pave_fan(
         seam,
         corner_limit,
     );
-    let answer = fan::fan(
+    let job = Job {
         coords,
         loop_lengths,
         h,
         options,
+    };
+    let mut lent = Lent {
         points,
         quads,
         front_nodes,
         front_lengths,
-        before,
-    );
-    exports_counts::put_answer(counts, before, answer)
+    };
+    let answer = fan::fan(&job, &mut lent, before);
+    put_answer(counts, before, answer)
 }

@@ -2,31 +2,28 @@
 use mathlib.Core.Path.{◌≡◌, refl, sym, ◌∙◌, ap}
 use mathlib.Core.Bool.{Bool, true, false, cond, ◌||◌}
 use mathlib.Core.List.{List, [], ◌∷◌}
-use Prim.Native.Nat.{ℕ, suc, ◌+◌, ◌*◌, ◌/◌, ◌%◌, ◌<◌, ◌≤◌}
+use Prim.Native.Nat.{ℕ, suc, ◌+◌, ◌/◌, ◌%◌, ◌<◌, ◌≤◌}
 use native.Mathlib.Omega.{arith}
 use borrow.Author.Tests.{eqb-true, eqb-false, ne_eqb, ltb-false}
 use lib.Dec.{eqb, ltb}
 use lib.Ieee.{Float}
-use lib.ListN.{length, get_or, take}
+use lib.ListN.{length, get_or}
 use Rattle.geometry.specs.declared.Point.{Point}
 use Rattle.geometry.specs.Rings.{Ring, node_ring}
 use Rattle.geometry.specs.Domain.{rings}
-use Rattle.state.specs.declared.Answer.TheVariants as Answers
 use Rattle.state.specs.Limits.{point_limit, quad_limit}
 use Rattle.state.specs.State.{State, Held, reading, written, counts_of}
 use Rattle.state.specs.Outcome.{refused, gives, first_true, test, outcome}
 use Rattle.state.specs.Call.{left, state_left}
 use Rattle.state.specs.Sound.{Sound}
 use Rattle.state.proofs.Basics.{zero_one}
-use Rattle.state.proofs.Reading.{Counted, sound_counted, fronts_read, points_long_lem, length-quads_of}
+use Rattle.state.proofs.Reading.{Counted, sound_counted, fronts_read, quads_read, points_long_lem}
 use Rattle.state.proofs.Zeros.{same_sizes}
 use Rattle.input.specs.Job.{Job}
 use Rattle.rules.specs.Fan.{centre, fanned, fan}
-use Rattle.fan_search.specs.declared.Tried.{Tried}
-use Rattle.fan_search.specs.declared.Tried.TheVariants.{Stands, Refused}
-use Rattle.fan_search.specs.Numbers.{fan_number, tried}
+use Rattle.fan_search.specs.Numbers.{fan_number}
 use Rattle.fan.specs.Laid.{laid_fan, Room}
-use Rattle.fan.proofs.OneFront.{one_front, size_is, front_long}
+use Rattle.fan.proofs.OneFront.{one_front, size_is, front_is, front_long}
 
 -- ---- the definition by its fronts
 
@@ -55,17 +52,17 @@ module _ (limit : Float) (j : Job) (s : State) where
 
 -- ---- a fan tried, by its number
 
-refused_number : (r : Tried) (m n : ℕ) (p : Point) → r ≡ tried m p → r ≡ Refused n → (m ≡ n) × (n ≡ 0 → ⊥)
-refused_number r m n p e f = go (eqb m 0) refl (sym e ∙ f)
+refused_number : {A : Type 0} (n m : ℕ) (p : A) → refused n ≡ outcome m p → (m ≡ n) × (n ≡ 0 → ⊥)
+refused_number {A} n m p e = go (eqb m 0) refl (sym e)
   where
-    go : (t : Bool) → eqb m 0 ≡ t → cond t (Stands p) (Refused m) ≡ Refused n → (m ≡ n) × (n ≡ 0 → ⊥)
+    go : (t : Bool) → eqb m 0 ≡ t → cond t (gives p) (refused m) ≡ refused n → (m ≡ n) × (n ≡ 0 → ⊥)
     go true d g = let z : ◌≡◌ {A = ℕ} 0 1 = cc in absurd (zero_one z)
     go false d g = let same : m ≡ n = cc in (same, λ z. eqb-false m 0 d (same ∙ z))
 
-stands_number : (r : Tried) (m : ℕ) (p q : Point) → r ≡ tried m p → r ≡ Stands q → (m ≡ 0) × (p ≡ q)
-stands_number r m p q e f = go (eqb m 0) refl (sym e ∙ f)
+gives_number : {A : Type 0} (q : A) (m : ℕ) (p : A) → gives q ≡ outcome m p → (m ≡ 0) × (p ≡ q)
+gives_number {A} q m p e = go (eqb m 0) refl (sym e)
   where
-    go : (t : Bool) → eqb m 0 ≡ t → cond t (Stands p) (Refused m) ≡ Stands q → (m ≡ 0) × (p ≡ q)
+    go : (t : Bool) → eqb m 0 ≡ t → cond t (gives p) (refused m) ≡ gives q → (m ≡ 0) × (p ≡ q)
     go true d g = (eqb-true m 0 d, cc)
     go false d g = let z : ◌≡◌ {A = ℕ} 0 1 = cc in absurd (zero_one z)
 
@@ -88,7 +85,7 @@ room_left limit outline pts f quads e =
     (omega (arith, odd), ltb-false _ _ t.1, ltb-false _ _ t.2)
 
 -- buffers and counts that are a state, written
-done_is : (s : State) (l : Held) → l ≡ written s → left (Answers.Done l.counts) l ≡ record { answer = Answers.Done (counts_of s); held = written s }
+done_is : (s : State) (l : Held) → l ≡ written s → left (gives l.counts) l ≡ record { answer = gives (counts_of s); held = written s }
 unfolding written
 done_is s l f = rw f
 
@@ -98,7 +95,7 @@ module _ (limit : Float) (j : Job) (b : Held) (sound : Sound b) where
   abbrev counted : Counted b
   counted = sound_counted b sound
 
-  pub no_front : b.counts.fronts ≡ 0 → (c : Held) → c ≡ written (reading b) → left (Answers.Done c.counts) c ≡ state_left b (fan limit j (reading b))
+  pub no_front : b.counts.fronts ≡ 0 → (c : Held) → c ≡ written (reading b) → left (gives c.counts) c ≡ state_left b (fan limit j (reading b))
   unfolding state_left
   no_front z c e = rw (fan_none limit j (reading b) (empty (reading b).fronts (fronts_read b counted ∙ z))) (done_is (reading b) c e)
     where
@@ -106,44 +103,41 @@ module _ (limit : Float) (j : Job) (b : Held) (sound : Sound b) where
       empty [] e = refl
       empty (f ∷ fs) e = absurd (omega arith)
 
-  pub several : 1 < b.counts.fronts → left (Answers.Refused 23) b ≡ state_left b (fan limit j (reading b))
+  pub several : 1 < b.counts.fronts → left (refused 23) b ≡ state_left b (fan limit j (reading b))
   unfolding state_left
   several l = rw (fan_many limit j (reading b) (rw (fronts_read b counted) l))
 
-  -- the one front, read as f
-  module _ (one : b.counts.fronts ≡ 1) (f : List ℕ) (hf : f ≡ get_or (reading b).fronts 0 []) where
+  module _ (one : b.counts.fronts ≡ 1) where
+    abbrev pub front : List ℕ
+    front = get_or (reading b).fronts 0 []
+
     abbrev number : ℕ
-    number = fan_number limit (rings j.coords j.loops) (take (b.counts.points * 2) b.points) f b.counts.quads
+    number = fan_number limit (rings j.coords j.loops) (reading b).points front b.counts.quads
 
     abbrev point : Point
-    point = (centre (rings j.coords j.loops) (node_ring (take (b.counts.points * 2) b.points) f)).point
+    point = (centre (rings j.coords j.loops) (node_ring (reading b).points front)).point
 
-    fan_is : fan limit j (reading b) ≡ outcome number (laid_fan (reading b) f point)
-    fan_is = fan_one limit j (reading b) f (rw hf (one_front b sound one)) ∙ same
-      where
-        same : fanned limit j (reading b) f ≡ outcome number (laid_fan (reading b) f point)
-        same = fanned_is limit j (reading b) f ∙ unfold reading in rw (length-quads_of b.counts.quads b.quads)
+    fan_is : fan limit j (reading b) ≡ outcome number (laid_fan (reading b) front point)
+    fan_is = fan_one limit j (reading b) front (one_front b sound one) ∙ fanned_is limit j (reading b) front ∙ rw (quads_read b counted)
 
-    module _ (r : Tried) (hr : r ≡ tried number point) where
-      pub refuses : (n : ℕ) → r ≡ Refused n → left (Answers.Refused n) b ≡ state_left b (fan limit j (reading b))
+    pub refuses : (n : ℕ) → refused n ≡ outcome number point → left (refused n) b ≡ state_left b (fan limit j (reading b))
+    unfolding state_left
+    refuses n e = let g = refused_number n number point e in rw (fan_is, g.0, ne_eqb n 0 g.1)
+
+    -- a fan that stands
+    module _ (p : Point) (stands : gives p ≡ outcome number point) where
+      pub lays : (l : Held) → l ≡ written (laid_fan (reading b) front p) → left (gives l.counts) l ≡ state_left b (fan limit j (reading b))
       unfolding state_left
-      refuses n e = let g = refused_number r number n point hr e in rw (fan_is, g.0, ne_eqb n 0 g.1)
+      lays l e = let g = gives_number p number point stands in rw (fan_is, g.0, g.1) (done_is (laid_fan (reading b) front p) l e)
 
-      module _ (p : Point) (stands : r ≡ Stands p) where
-        pub lays : (l : Held) → l ≡ written (laid_fan (reading b) (get_or (reading b).fronts 0 []) p) → left (Answers.Done l.counts) l ≡ state_left b (fan limit j (reading b))
-        unfolding state_left
-        lays l e = let g = stands_number r number point p hr stands in rw (fan_is, g.0, g.1, hf) (done_is (laid_fan (reading b) (get_or (reading b).fronts 0 []) p) l e)
-
--- ---- a fan that stands, on the one front read as f, has room
-
-pub has_room : (limit : Float) (outline : List Ring) (b : Held) (sound : Sound b) (one : b.counts.fronts ≡ 1) (n : ℕ) (f : List ℕ) (r : Tried) (p q : Point) → n ≡ get_or b.front_lengths 0 0
-    → f ≡ take n b.front_nodes → r ≡ tried (fan_number limit outline (take (b.counts.points * 2) b.points) f b.counts.quads) p → r ≡ Stands q → b.counts.core_quads ≤ b.counts.quads → Room b
-has_room limit outline b sound one n f r p q hn hf hr stands core =
-    let g = room_left limit outline (take (b.counts.points * 2) b.points) f b.counts.quads (stands_number r _ p q hr stands).0 in
-    let long : length f ≡ n = ap length hf ∙ front_long b sound one n hn in
-    let size = size_is b sound one in
-    let pts = points_long_lem b (sound_counted b sound) in
-    record { front = one; even = omega arith; points = omega arith; quads = omega arith; core = core }
+      pub has_room : b.counts.core_quads ≤ b.counts.quads → Room b
+      unfolding reading
+      has_room core =
+          let g = room_left limit (rings j.coords j.loops) (reading b).points front b.counts.quads (gives_number p number point stands).0 in
+          let long = ap length (sym (front_is b sound one _ refl)) ∙ front_long b sound one _ refl in
+          let size = size_is b sound one in
+          let pts = points_long_lem b counted in
+          record { front = one; even = omega arith; points = omega arith; quads = omega arith; core = core }
 
 -- ---- buffers with zeros behind the state of b, and the same counts, have as much room
 

@@ -1,53 +1,23 @@
 // The fan call.
 ghost use Rattle.std.specs.Prelude.{◌≡◌};
-ghost use Rattle.state.specs.Call.{held, left};
-ghost use Rattle.input.specs.Job.{job};
+ghost use Rattle.state.specs.Call.{left};
+ghost use Rattle.state.specs.Lent.{Same, held_in};
+ghost use Rattle.state.specs.Refusals.{answered};
+ghost use Rattle.input.specs.Job.{job_of};
 ghost use Rattle.rules.specs.Calls.{fan_call};
 
 use crate::step::fan_fill;
-use input::{Options, input_number};
-use state::{Answer, Counts, wrong_state};
+use input::Job;
+use state::{Counts, Lent, Refusal};
 
 // Numbers 1 to 6 for the job, 25 for the state, then 23, 24, 26, 21 and 27, in that order. No refusal changes anything.
-pub fn fan(
-    coords: &[f64],
-    loop_lengths: &[u16],
-    h: f64,
-    options: Options,
-    points: &mut [f64],
-    quads: &mut [u16],
-    front_nodes: &mut [u16],
-    front_lengths: &mut [u16],
-    counts: Counts,
-) -> Answer
-    ensures { left result (held points.new quads.new front_nodes.new front_lengths.new counts)
-        ≡ fan_call (job coords.now loop_lengths.now h options) (held points.old quads.old front_nodes.old front_lengths.old counts) }
+pub fn fan(job: &Job, lent: &mut Lent, counts: Counts) -> Result<Counts, Refusal>
+    ensures same { Same lent.old lent.new }
+    ensures left { left (answered result) (held_in lent.new counts) ≡ fan_call (job_of job.now) (held_in lent.old counts) }
 {
-    let input = input_number(
-        coords,
-        loop_lengths,
-        h,
-        options,
-        points.len(),
-        quads.len(),
-        front_nodes.len(),
-        front_lengths.len(),
-    );
-    if input != 0 {
-        return Answer::Refused(input);
+    job.check(lent)?;
+    if lent.is_wrong(counts) {
+        return Err(Refusal::State);
     }
-    if wrong_state(points, quads, front_nodes, front_lengths, counts) {
-        return Answer::Refused(25);
-    }
-    fan_fill(
-        coords,
-        loop_lengths,
-        points,
-        quads,
-        front_nodes,
-        front_lengths,
-        counts,
-        options.corner_limit,
-        false,
-    )
+    fan_fill(job, lent, counts, false)
 }

@@ -10,7 +10,7 @@ use geometry::{Point, put_point, wide};
 use state::{Counts, clear_nodes};
 
 // Writes the fan round the point `p`: the quads and the centre behind the others, and zeros for the front, which goes; answers the
-// counts after it.
+// counts after it. The buffers stand apart here: a call that writes one while it reads others gets no proof from fields of `Lent`.
 pub fn lay_fan(
     points: &mut [f64],
     quads: &mut [u16],
@@ -39,10 +39,7 @@ pub fn lay_fan(
         points: first + 1,
         quads: laid + m,
         fronts: 0,
-        row_quads: counts.row_quads,
         core_quads: counts.core_quads + m,
-        row_rounds: counts.row_rounds,
-        passes_begun: counts.passes_begun,
-        laid: counts.laid,
+        ..counts
     }
 }

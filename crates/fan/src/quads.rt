@@ -29,9 +29,8 @@ pub fn put_fan(quads: &mut [u16], at: usize, points: &[f64], nodes: &[u16], p: P
     ensures { quads.new ≡ sets quads.old at (joined (map quad_nodes (fan_quads (with_centre points.now p) nodes.now (length points.now / 2) (length nodes.now / 2)))) }
 {
     let n = nodes.len();
-    let m = n / 2;
     let centre = narrow(points.len() / 2);
-    for k in 0..m {
+    for k in 0..n / 2 {
         let turned = is_turned(points, nodes, p, k);
         let first = k * 2;
         let second = first + 1;

@@ -1,95 +1,80 @@
 // The fan on lent buffers: the Rust's `fan_fill`.
-ghost use Rattle.std.specs.Prelude.{◌≡◌, true, ◌*◌, ◌≤◌, Float, length};
-ghost use Rattle.geometry.specs.Domain.{sum_of};
+ghost use Rattle.std.specs.Prelude.{◌≡◌, [], true, ◌*◌, ◌≤◌, get_or, length};
+ghost use Rattle.geometry.specs.Domain.{rings, sum_of};
+ghost use Rattle.geometry.specs.Rings.{node_ring};
+ghost use Rattle.state.specs.Outcome.{outcome};
 ghost use Rattle.state.specs.State.{reading};
-ghost use Rattle.state.specs.Call.{held, left, state_left};
+ghost use Rattle.state.specs.Call.{left, state_left};
+ghost use Rattle.state.specs.Lent.{Same, held_in};
+ghost use Rattle.state.specs.Refusals.{answered};
 ghost use Rattle.state.specs.Sound.{Clean, Sound};
-ghost use Rattle.input.specs.declared.Options.{Options};
-ghost use Rattle.input.specs.Job.{job};
-ghost use Rattle.rules.specs.Fan.{fan};
+ghost use Rattle.input.specs.Job.{job_of};
+ghost use Rattle.rules.specs.Fan.{centre, fan};
+ghost use Rattle.fan_search.specs.Numbers.{fan_number};
 
 use crate::laying::lay_fan;
-use fan_search::{Tried, try_fan};
-use geometry::wide;
-use state::{Answer, Counts, clear_behind};
+use fan_search::try_fan;
+use geometry::{Point, wide};
+use input::Job;
+use state::{Counts, Lent, Refusal};
+
+// The centre of the fan of the one front, if the fan stands.
+fn try_on(job: &Job, lent: &Lent, counts: Counts) -> Result<Point, Refusal>
+    requires sound { Sound (held_in lent.now counts) }
+    requires fronts_value { (counts.fronts ≡ 1) × (sum_of job.now.loop_lengths.now * 2 ≤ length job.now.coords.now) }
+    ensures { let s = reading (held_in lent.now counts) in let f = get_or s.fronts 0 [] in let outline = rings job.now.coords.now job.now.loop_lengths.now in
+        answered result ≡ outcome (fan_number job.now.options.corner_limit outline s.points f counts.quads) (centre outline (node_ring s.points f)).point }
+{
+    let n = wide(lent.front_lengths[0]);
+    try_fan(
+        job.coords,
+        job.loop_lengths,
+        &lent.points[..counts.points * 2],
+        &lent.front_nodes[..n],
+        counts.quads,
+        job.options.corner_limit,
+    )
+}
 
 // The fan of the one front. Buffers that are not `clean` get their zeros before the fan is laid, and a refused fan leaves everything
 // as it was.
-fn fan_one(
-    coords: &[f64],
-    loop_lengths: &[u16],
-    points: &mut [f64],
-    quads: &mut [u16],
-    front_nodes: &mut [u16],
-    front_lengths: &mut [u16],
-    counts: Counts,
-    limit: f64,
-    clean: bool,
-) -> Answer
-    requires sound { Sound (held points.old quads.old front_nodes.old front_lengths.old counts) }
-    requires clean { clean ≡ true → Clean (held points.old quads.old front_nodes.old front_lengths.old counts) }
-    requires fronts_value { (counts.fronts ≡ 1) × (counts.core_quads ≤ counts.quads) × (sum_of loop_lengths.now * 2 ≤ length coords.now) }
-    ensures { (h : Float) (options : Options) → left result (held points.new quads.new front_nodes.new front_lengths.new counts)
-        ≡ state_left (held points.old quads.old front_nodes.old front_lengths.old counts)
-        (fan limit (job coords.now loop_lengths.now h options) (reading (held points.old quads.old front_nodes.old front_lengths.old counts))) }
+fn fan_one(job: &Job, lent: &mut Lent, counts: Counts, clean: bool) -> Result<Counts, Refusal>
+    requires sound { Sound (held_in lent.old counts) }
+    requires clean { clean ≡ true → Clean (held_in lent.old counts) }
+    requires fronts_value { (counts.fronts ≡ 1) × (counts.core_quads ≤ counts.quads) × (sum_of job.now.loop_lengths.now * 2 ≤ length job.now.coords.now) }
+    ensures same { Same lent.old lent.new }
+    ensures left { left (answered result) (held_in lent.new counts)
+        ≡ state_left (held_in lent.old counts) (fan job.now.options.corner_limit (job_of job.now) (reading (held_in lent.old counts))) }
 {
-    let end = counts.points * 2;
-    let n = wide(front_lengths[0]);
-    let tried = try_fan(
-        coords,
-        loop_lengths,
-        &points[..end],
-        &front_nodes[..n],
-        counts.quads,
-        limit,
+    let centre = try_on(job, lent, counts)?;
+    lent.clear_behind(clean, counts);
+    let after = lay_fan(
+        lent.points,
+        lent.quads,
+        lent.front_nodes,
+        lent.front_lengths,
+        counts,
+        centre,
     );
-    match tried {
-        Tried::Refused(number) => Answer::Refused(number),
-        Tried::Stands(p) => {
-            clear_behind(clean, points, quads, front_nodes, front_lengths, counts);
-            let after = lay_fan(points, quads, front_nodes, front_lengths, counts, p);
-            Answer::Done(after)
-        }
-    }
+    Ok(after)
 }
 
-// A fan on a state whose buffers are sound, with the corner limit `limit`; buffers that are `clean` are clean again after it. With no
-// front it adds nothing. A refused fan leaves everything as it was. It tests nothing of the state but the fan.
-pub fn fan_fill(
-    coords: &[f64],
-    loop_lengths: &[u16],
-    points: &mut [f64],
-    quads: &mut [u16],
-    front_nodes: &mut [u16],
-    front_lengths: &mut [u16],
-    counts: Counts,
-    limit: f64,
-    clean: bool,
-) -> Answer
-    requires sound { Sound (held points.old quads.old front_nodes.old front_lengths.old counts) }
-    requires clean { clean ≡ true → Clean (held points.old quads.old front_nodes.old front_lengths.old counts) }
-    requires core_quads_bound { (counts.core_quads ≤ counts.quads) × (sum_of loop_lengths.now * 2 ≤ length coords.now) }
-    ensures { (h : Float) (options : Options) → left result (held points.new quads.new front_nodes.new front_lengths.new counts)
-        ≡ state_left (held points.old quads.old front_nodes.old front_lengths.old counts)
-        (fan limit (job coords.now loop_lengths.now h options) (reading (held points.old quads.old front_nodes.old front_lengths.old counts))) }
+// A fan on a state whose buffers are sound; buffers that are `clean` are clean again after it. With no front it adds nothing. A refused
+// fan leaves everything as it was. It tests nothing of the state but the fan.
+pub fn fan_fill(job: &Job, lent: &mut Lent, counts: Counts, clean: bool) -> Result<Counts, Refusal>
+    requires sound { Sound (held_in lent.old counts) }
+    requires clean { clean ≡ true → Clean (held_in lent.old counts) }
+    requires core_quads_bound { (counts.core_quads ≤ counts.quads) × (sum_of job.now.loop_lengths.now * 2 ≤ length job.now.coords.now) }
+    ensures same { Same lent.old lent.new }
+    ensures left { left (answered result) (held_in lent.new counts)
+        ≡ state_left (held_in lent.old counts) (fan job.now.options.corner_limit (job_of job.now) (reading (held_in lent.old counts))) }
 {
-    let fronts = counts.fronts;
-    if fronts == 0 {
-        clear_behind(clean, points, quads, front_nodes, front_lengths, counts);
-        return Answer::Done(counts);
+    match counts.fronts {
+        0 => {
+            lent.clear_behind(clean, counts);
+            Ok(counts)
+        }
+        1 => fan_one(job, lent, counts, clean),
+        _ => Err(Refusal::Fronts),
     }
-    if 1 < fronts {
-        return Answer::Refused(23);
-    }
-    fan_one(
-        coords,
-        loop_lengths,
-        points,
-        quads,
-        front_nodes,
-        front_lengths,
-        counts,
-        limit,
-        clean,
-    )
 }

@@ -1,10 +1,10 @@
 -- The quads of a fan by their points, and written one a turn.
 use mathlib.Core.Path.{◌≡◌, refl, sym, ◌∙◌, ap}
-use mathlib.Core.Bool.{Bool, true, false}
+use mathlib.Core.Bool.{Bool, true, false, ◌&&◌}
 use mathlib.Core.List.{List, [], ◌∷◌}
 use mathlib.Core.Logic.{⊎_elim, inl, inr}
 use Prim.Native.Nat.{ℕ, zero, suc, ◌+◌, ◌*◌, ◌/◌, ◌%◌, ◌<◌}
-use native.Mathlib.Nat.{mod-eq_of_lt, mod_self, not-suc-le-zero, le_of_suc-le-suc, eq-or-lt_of_le}
+use native.Mathlib.Nat.{zero-add, add-zero, mod-eq_of_lt, mod_self, not-suc-le-zero, le_of_suc-le-suc, eq-or-lt_of_le}
 use native.Mathlib.Omega.{arith}
 use lib.Ieee.{Float, nan, lt}
 use lib.ListN.{length, get_or, get_or-append}
@@ -15,7 +15,8 @@ use Rattle.geometry.specs.Rings.{point_at, next}
 use Rattle.geometry.specs.Measures.{quad_area, corners_pass}
 use Rattle.state.specs.State.{Quad, quad}
 use Rattle.pairs.proofs.Sides.{next_cases}
-use Rattle.rules.specs.Checks.{quad_passes}
+use Rattle.std.specs.List.{list_all, range_with_len}
+use Rattle.rules.specs.Checks.{every, quad_passes}
 use Rattle.rules.specs.Closing.{area_of, turned_quad}
 use Rattle.rules.specs.Fan.{fan_quads}
 use Rattle.rules.proofs.FanGood.{fan-length}
@@ -97,6 +98,27 @@ quad_at pts f c (suc m) i d l =
     (λ g. get_or-append (fan_quads pts f c m) _ d i (rw (fan-length pts f c m) g) ∙ quad_at pts f c m i d g)
     (eq-or-lt_of_le (le_of_suc-le-suc l))
 
-pub passes_at : (limit : Float) (pts : List Float) (f : List ℕ) (c m i : ℕ) {r b : Bool} → i < m → r ≡ quad_passes limit pts (turned_quad pts (plain_quad f c i)) → r ≡ b
-    → quad_passes limit pts (get_or (fan_quads pts f c m) i (quad 0 0 0 0)) ≡ b
-passes_at limit pts f c m i l e g = rw (quad_at pts f c m i (quad 0 0 0 0) l, ← e) g
+-- ---- a test at each place of a range
+
+all_more : (p : ℕ → Bool) (a n : ℕ) → list_all p (range_with_len a (suc n)) ≡ (list_all p (range_with_len a n) && p (a + n))
+all_more p a zero = rw add-zero (go (p a))
+  where
+    go : (t : Bool) → (t && true) ≡ t
+    go true = refl
+    go false = refl
+all_more p a (suc n) =
+    let same : a + 1 + n ≡ a + suc n = omega arith in
+    ap (λ t. p a && t) (rw same at (all_more p (a + 1) n)) ∙ go (p a) _ _
+  where
+    go : (t u v : Bool) → (t && (u && v)) ≡ (t && u && v)
+    go true u v = refl
+    go false u v = refl
+
+all_every : (p q : ℕ → Bool) (n : ℕ) → ((i : ℕ) → i < n → p i ≡ q i) → list_all p (range_with_len 0 n) ≡ every q n
+unfolding every
+all_every p q zero h = refl
+all_every p q (suc n) h = all_more p 0 n ∙ rw (zero-add, all_every p q n (λ i l. h i (omega arith)), h n (omega arith))
+
+pub every_passes : (limit : Float) (pts : List Float) (f : List ℕ) (c m : ℕ)
+    → list_all (λ k. quad_passes limit pts (turned_quad pts (plain_quad f c k))) (range_with_len 0 m) ≡ every (λ i. quad_passes limit pts (get_or (fan_quads pts f c m) i (quad 0 0 0 0))) m
+every_passes limit pts f c m = all_every _ _ m (λ i l. rw (quad_at pts f c m i (quad 0 0 0 0) l))

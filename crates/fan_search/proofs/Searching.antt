@@ -28,6 +28,16 @@ pub box_more : (r : Ring) (i : ℕ) (p : Point) (left low right high l b g h : F
 unfolding box
 box_more r i p left low right high l b g h e hp hl hb hg hh = rw (add-one, ← e, hl, hb, hg, hh, hp)
 
+-- the same of the code's boxes
+pub box_first : (r : Ring) → record { left = inf false; low = inf false; right = inf true; high = inf true } ≡ box r 0
+unfolding box
+box_first r = refl
+
+pub box_next : (r : Ring) (i : ℕ) (p : Point) (b : Box) → b ≡ box r i → p ≡ r.at i
+    → record { left = lesser b.left p.x; low = lesser b.low p.y; right = greater b.right p.x; high = greater b.high p.y } ≡ box r (i + 1)
+unfolding box
+box_next r i p b e h = rw (add-one, ← e, ← h)
+
 -- ---- one point tried
 
 fails_second : (a c : Bool) → (a && false && c) ≡ false

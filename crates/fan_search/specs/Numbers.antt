@@ -1,16 +1,13 @@
--- The number that a fan gives, and a fan tried. Definitions only.
-use Rattle.std.specs.Prelude.{ℕ, ◌+◌, ◌/◌, ◌%◌, not, cond, ◌||◌, List, [], ◌∷◌, length, get_or, eqb, ltb, Float}
+-- The number that a fan gives. Definitions only.
+use Rattle.std.specs.Prelude.{ℕ, ◌+◌, ◌/◌, ◌%◌, not, ◌||◌, List, [], ◌∷◌, length, get_or, eqb, ltb, Float}
 use Rattle.std.specs.Float.Ieee.{le}
 use Rattle.float.specs.Helpers.{decimal, is_finite}
-use Rattle.geometry.specs.declared.Point.{Point}
 use Rattle.geometry.specs.Rings.{Ring, node_ring}
 use Rattle.state.specs.Limits.{point_limit, quad_limit}
 use Rattle.state.specs.State.{quad}
 use Rattle.state.specs.Outcome.{first_true, test}
 use Rattle.rules.specs.Checks.{every, quad_passes}
 use Rattle.rules.specs.Fan.{centre, fan_quads}
-use Rattle.fan_search.specs.declared.Tried.{Tried}
-use Rattle.fan_search.specs.declared.Tried.TheVariants.{Stands, Refused}
 use Rattle.fan_search.specs.Quads.{with_centre}
 
 -- the tests of `fanned`, on a front f of the points pts, where `quads` quads are laid
@@ -25,7 +22,3 @@ fan_number limit outline pts f quads =
     ∷ test 21 (ltb point_limit (length pts / 2 + 1) || ltb quad_limit (quads + n / 2))
     ∷ test 27 (not (every (λ i. quad_passes limit all (get_or (fan_quads all f (length pts / 2) (n / 2)) i (quad 0 0 0 0))) (n / 2)))
     ∷ [])
-
--- the case of each number, with the centre where it is 0
-abbrev pub tried : ℕ → Point → Tried
-tried n p = cond (eqb n 0) (Stands p) (Refused n)

@@ -1,5 +1,5 @@
 -- Squares of distances: what the search compares before it takes a root. `rules` says what the clearance is. Definitions only.
-use Rattle.std.specs.Prelude.{◌≡◌, true, false, ◌⊎◌, ℕ, ◌<◌, T, Float}
+use Rattle.std.specs.Prelude.{◌≡◌, true, false, ◌⊎◌, ℕ, ◌<◌, T, Float, Result, Ok, Err}
 use Rattle.std.specs.Float.{inf, binary64}
 use Rattle.std.specs.Float.Ieee.{le, fits}
 use Rattle.float.specs.Root.{root}
@@ -9,17 +9,15 @@ use Rattle.geometry.specs.Rings.{Ring, next}
 use Rattle.geometry.specs.Measures.{short_in_paving}
 use Rattle.geometry.specs.Squares.{segment_square, least_square}
 use Rattle.fan_search.specs.declared.Centre.{Centre}
-use Rattle.fan_search.specs.declared.Sides.{Sides}
-use Rattle.fan_search.specs.declared.Sides.TheVariants.{Near, Clear}
 
 -- the square of the distance from p to side i of the ring
 abbrev pub side_square : Point → Ring → ℕ → Float
 side_square p r i = segment_square short_in_paving p (r.at i) (r.at (next r.size i))
 
--- a side that is too near, or the least square of all
-abbrev pub Seen : Point → Ring → Float → Sides → Type 0
-Seen p r bound (Near i) = (i < r.size) × (le (side_square p r i) bound ≡ true)
-Seen p r bound (Clear least) = least ≡ least_square short_in_paving p (inf false) r r.size
+-- the least square of all, or a side that is too near
+abbrev pub Seen : Point → Ring → Float → Result Float ℕ → Type 0
+Seen p r bound (Err i) = (i < r.size) × (le (side_square p r i) bound ≡ true)
+Seen p r bound (Ok least) = least ≡ least_square short_in_paving p (inf false) r r.size
 
 -- no point has been found yet, and no square is at most this one; or the clearance is the square's root
 abbrev pub Squared : Centre → Type 0

@@ -7,51 +7,38 @@ ghost use Rattle.fan_search.specs.Squares.{Squared};
 ghost use Rattle.fan_search.specs.Values.{boxed, centred};
 
 use crate::squares::{look_at, side_square};
-use crate::{Box, Centre, Sides};
-use geometry::Point;
+use crate::{Box, Centre};
+use geometry::{Point, point_at, wide};
 
 // The box of the points that the nodes name.
+#[tactic(auto, using(crate::proofs::Searching::box_first))]
 fn box_of(points: &[f64], nodes: &[u16]) -> Box
     requires { (i : ℕ) → i < length nodes.now → get_or nodes.now i 0 * 2 + 1 < length points.now }
     ensures { boxed result ≡ fans.box (node_ring points.now nodes.now) (length nodes.now) }
 {
-    let mut left = 1.0 / 0.0;
-    let mut low = 1.0 / 0.0;
-    let mut right = -1.0 / 0.0;
-    let mut high = -1.0 / 0.0;
-    let mut i = 0usize;
-    while i < nodes.len() {
-        let p = geometry::node_point(points, nodes, i);
-        left = float::lesser(left, p.x);
-        low = float::lesser(low, p.y);
-        right = float::greater(right, p.x);
-        high = float::greater(high, p.y);
-        i += 1;
+    let mut b = Box::empty();
+    for &node in nodes {
+        b = b.with(point_at(points, wide(node)));
     }
-    Box {
-        left,
-        low,
-        right,
-        high,
-    }
+    b
 }
 
 // The `k`th of 13 even steps from `a` to `b`.
-fn grid_step(a: f64, b: f64, k: usize) -> f64
-    requires { k < 13 }
+#[tactic(auto, using(crate::proofs::Literals::twelve_is))]
+fn grid_step(a: f64, b: f64, k: u32) -> f64
     ensures { result ≡ fans.grid_step a b k }
 {
-    a + (b - a) * ((k as u32) as f64) / 12.0
+    a + (b - a) * f64::from(k) / 12.0
 }
 
 // The grid's point in column `i` and row `j`.
-fn grid_point(b: Box, i: usize, j: usize) -> Point
-    requires { (i < 13) × (j < 13) }
+fn grid_point(b: Box, i: u32, j: u32) -> Point
     ensures { result ≡ fans.grid_point (boxed b) i j }
 {
-    let x = grid_step(b.left, b.right, i);
-    let y = grid_step(b.low, b.high, j);
-    Point { x, y }
+    Point {
+        x: grid_step(b.left, b.right, i),
+        y: grid_step(b.low, b.high, j),
+    }
 }
 
 // `p` where it is in the domain, within the front and farther from it than `best`; otherwise `best`. The side that the point before
@@ -68,35 +55,26 @@ fn try_point(
     requires by_index { (i : ℕ) → i < length nodes.now → get_or nodes.now i 0 * 2 + 1 < length points.now }
     ensures { Squared result × ((b : fans.Box) → centred result ≡ fans.try_point (rings coords.now loops.now) (node_ring points.now nodes.now) b p (centred best)) }
 {
-    let near = best.near;
-    if near < nodes.len() {
-        if side_square(p, points, nodes, near) <= best.square {
-            return best;
-        }
+    if best.near < nodes.len() && side_square(p, points, nodes, best.near) <= best.square {
+        return best;
     }
     if !geometry::in_front(p, points, nodes) {
         return best;
     }
-    let seen = look_at(p, points, nodes, best.square);
-    match seen {
-        Sides::Near(side) => {
-            let mut kept = best;
-            kept.near = side;
-            kept
-        }
-        Sides::Clear(square) => {
+    match look_at(p, points, nodes, best.square) {
+        Err(near) => Centre { near, ..best },
+        Ok(square) => {
             let clearance = float::root(square);
-            if best.clearance < clearance {
-                if geometry::contains(coords, loops, p) {
-                    return Centre {
-                        point: p,
-                        clearance,
-                        square,
-                        near,
-                    };
+            if best.clearance < clearance && geometry::contains(coords, loops, p) {
+                Centre {
+                    point: p,
+                    clearance,
+                    square,
+                    ..best
                 }
+            } else {
+                best
             }
-            best
         }
     }
 }
@@ -108,10 +86,10 @@ fn search_column(
     points: &[f64],
     nodes: &[u16],
     b: Box,
-    i: usize,
+    i: u32,
     best: Centre,
 ) -> Centre
-    requires i_bound { (i < 13) × (sum_of loops.now * 2 ≤ length coords.now) × Squared best }
+    requires loops_in_bounds { (sum_of loops.now * 2 ≤ length coords.now) × Squared best }
     requires by_index { (i : ℕ) → i < length nodes.now → get_or nodes.now i 0 * 2 + 1 < length points.now }
     ensures { Squared result × (centred result ≡ fans.search_column (rings coords.now loops.now) (node_ring points.now nodes.now) (boxed b) i 13 (centred best)) }
 {
@@ -124,6 +102,7 @@ fn search_column(
 }
 
 // Where the search starts: the middle of the box, with no clearance.
+#[tactic(auto, using(placing::proofs::Literals::half_is, crate::proofs::Literals::minus_inf_is))]
 fn middle_of(b: Box) -> Centre
     ensures { Squared result × (centred result ≡ fans.start (boxed b)) }
 {
@@ -133,8 +112,8 @@ fn middle_of(b: Box) -> Centre
     };
     Centre {
         point,
-        clearance: -1.0 / 0.0,
-        square: -1.0 / 0.0,
+        clearance: f64::NEG_INFINITY,
+        square: f64::NEG_INFINITY,
         near: 0,
     }
 }
@@ -153,11 +132,11 @@ fn search_grid(coords: &[f64], loops: &[u16], points: &[f64], nodes: &[u16], b: 
 }
 
 // The fan's centre and its clearance.
+#[tactic(auto, unfolding(rules::specs::Fan::centre))]
 pub fn centre_of(coords: &[f64], loops: &[u16], points: &[f64], nodes: &[u16]) -> Centre
     requires loops_in_bounds { sum_of loops.now * 2 ≤ length coords.now }
     requires by_index { (i : ℕ) → i < length nodes.now → get_or nodes.now i 0 * 2 + 1 < length points.now }
     ensures { centred result ≡ fans.centre (rings coords.now loops.now) (node_ring points.now nodes.now) }
 {
-    let b = box_of(points, nodes);
-    search_grid(coords, loops, points, nodes, b)
+    search_grid(coords, loops, points, nodes, box_of(points, nodes))
 }

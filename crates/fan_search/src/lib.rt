@@ -2,6 +2,7 @@
 // written here.
 #![tactic(auto)]
 
+mod boxes;
 mod grid;
 mod quads;
 mod squares;
@@ -30,24 +31,10 @@ pub struct Centre {
     pub near: usize,
 }
 
-// The sides of a front seen from a point: the first that is too near, or the least square of the distances to them.
-#[derive(Clone, Copy)]
-pub enum Sides {
-    Near(usize),
-    Clear(f64),
-}
-
 // The points of a quad's three front nodes, in turn.
 #[derive(Clone, Copy)]
 pub struct Three {
     pub a: Point,
     pub b: Point,
     pub c: Point,
-}
-
-// A fan tried: it stands, with its centre, or it is refused with a number.
-#[derive(Clone, Copy)]
-pub enum Tried {
-    Stands(Point),
-    Refused(u32),
 }

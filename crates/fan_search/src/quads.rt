@@ -21,10 +21,11 @@ fn three_at(points: &[f64], nodes: &[u16], k: usize) -> Three
     let first = k * 2;
     let second = first + 1;
     let third = geometry::next_of(nodes.len(), second);
-    let a = geometry::node_point(points, nodes, first);
-    let b = geometry::node_point(points, nodes, second);
-    let c = geometry::node_point(points, nodes, third);
-    Three { a, b, c }
+    Three {
+        a: geometry::node_point(points, nodes, first),
+        b: geometry::node_point(points, nodes, second),
+        c: geometry::node_point(points, nodes, third),
+    }
 }
 
 // Whether quad `k` is turned.
@@ -33,10 +34,7 @@ pub fn is_turned(points: &[f64], nodes: &[u16], p: Point, k: usize) -> bool
     requires by_index { (i : ℕ) → i < length nodes.now → get_or nodes.now i 0 * 2 + 1 < length points.now }
     ensures { result ≡ lt (area_of (with_centre points.now p) (plain_quad nodes.now (length points.now / 2) k)) (decimal 0 0) }
 {
-    let t = three_at(points, nodes, k);
-    let a = t.a;
-    let b = t.b;
-    let c = t.c;
+    let Three { a, b, c } = three_at(points, nodes, k);
     geometry::quad_area(p, a, b, c) < 0.0
 }
 
@@ -46,10 +44,7 @@ fn quad_passes(points: &[f64], nodes: &[u16], p: Point, limit: f64, k: usize) ->
     requires by_index { (i : ℕ) → i < length nodes.now → get_or nodes.now i 0 * 2 + 1 < length points.now }
     ensures { result ≡ quad_passes limit (with_centre points.now p) (turned_quad (with_centre points.now p) (plain_quad nodes.now (length points.now / 2) k)) }
 {
-    let t = three_at(points, nodes, k);
-    let a = t.a;
-    let b = t.b;
-    let c = t.c;
+    let Three { a, b, c } = three_at(points, nodes, k);
     if geometry::quad_area(p, a, b, c) < 0.0 {
         return geometry::corners_pass(c, b, a, p, limit);
     }
@@ -62,11 +57,5 @@ pub fn all_pass(points: &[f64], nodes: &[u16], p: Point, limit: f64) -> bool
     requires by_index { (i : ℕ) → i < length nodes.now → get_or nodes.now i 0 * 2 + 1 < length points.now }
     ensures { result ≡ every (λ i. quad_passes limit (with_centre points.now p) (get_or (fan_quads (with_centre points.now p) nodes.now (length points.now / 2) (length nodes.now / 2)) i (quad 0 0 0 0))) (length nodes.now / 2) }
 {
-    let m = nodes.len() / 2;
-    for k in 0..m {
-        if !quad_passes(points, nodes, p, limit, k) {
-            return false;
-        }
-    }
-    true
+    (0..nodes.len() / 2).all(|k| quad_passes(points, nodes, p, limit, k))
 }

@@ -4,10 +4,10 @@ ghost use Rattle.std.specs.Prelude.{◌≡◌, ℕ, ◌*◌, ◌+◌, ◌<◌, g
 ghost use Rattle.geometry.specs.Rings.{node_ring};
 ghost use Rattle.fan_search.specs.Squares.{Seen, side_square};
 
-use crate::Sides;
 use geometry::Point;
 
 // The square of the distance from `p` to the side at place `i`.
+#[tactic(auto, using(geometry::proofs::Literals::short_is))]
 pub fn side_square(p: Point, points: &[f64], nodes: &[u16], i: usize) -> f64
     requires i_in_bounds { i < length nodes.now }
     requires by_index { (i : ℕ) → i < length nodes.now → get_or nodes.now i 0 * 2 + 1 < length points.now }
@@ -19,22 +19,20 @@ pub fn side_square(p: Point, points: &[f64], nodes: &[u16], i: usize) -> f64
     geometry::segment_square(1e-18, p, a, b)
 }
 
-// Side by side up to the first whose square is at most `bound`.
-pub fn look_at(p: Point, points: &[f64], nodes: &[u16], bound: f64) -> Sides
+// The least of the squares, or the first side whose square is at most `bound`.
+pub fn look_at(p: Point, points: &[f64], nodes: &[u16], bound: f64) -> Result<f64, usize>
     requires { (i : ℕ) → i < length nodes.now → get_or nodes.now i 0 * 2 + 1 < length points.now }
     ensures { Seen p (node_ring points.now nodes.now) bound result }
 {
-    let mut least = 1.0 / 0.0;
-    let mut i = 0usize;
-    while i < nodes.len() {
+    let mut least = f64::INFINITY;
+    for i in 0..nodes.len() {
         let square = side_square(p, points, nodes, i);
         if square <= bound {
-            return Sides::Near(i);
+            return Err(i);
         }
         if square < least {
             least = square;
         }
-        i += 1;
     }
-    Sides::Clear(least)
+    Ok(least)
 }

@@ -3,14 +3,18 @@ ghost use Rattle.std.specs.Prelude.{◌≡◌, ℕ, ◌%◌, ◌*◌, ◌+◌, �
 ghost use Rattle.geometry.specs.Domain.{rings, sum_of};
 ghost use Rattle.geometry.specs.Rings.{node_ring};
 ghost use Rattle.state.specs.Limits.{quad_limit};
+ghost use Rattle.state.specs.Outcome.{outcome};
+ghost use Rattle.state.specs.Refusals.{answered};
 ghost use Rattle.rules.specs.Fan.{centre};
-ghost use Rattle.fan_search.specs.Numbers.{fan_number, tried};
+ghost use Rattle.fan_search.specs.Numbers.{fan_number};
 
-use crate::Tried;
+use crate::Centre;
 use crate::grid::centre_of;
 use crate::quads::all_pass;
+use geometry::Point;
+use state::Refusal;
 
-// The fan of the front of these nodes, where `quads` quads are laid.
+// The centre of the fan of the front of these nodes, where `quads` quads are laid, if the fan stands.
 pub fn try_fan(
     coords: &[f64],
     loops: &[u16],
@@ -18,27 +22,29 @@ pub fn try_fan(
     nodes: &[u16],
     quads: usize,
     limit: f64,
-) -> Tried
+) -> Result<Point, Refusal>
     requires loops_in_bounds { (sum_of loops.now * 2 ≤ length coords.now) × (length points.now % 2 ≡ 0) × (quads ≤ quad_limit) }
     requires by_index { (i : ℕ) → i < length nodes.now → get_or nodes.now i 0 * 2 + 1 < length points.now }
-    ensures { result ≡ tried (fan_number limit (rings coords.now loops.now) points.now nodes.now quads)
+    ensures { answered result ≡ outcome (fan_number limit (rings coords.now loops.now) points.now nodes.now quads)
         (centre (rings coords.now loops.now) (node_ring points.now nodes.now)).point }
 {
     let n = nodes.len();
-    if (n < 4) | (n % 2 == 1) {
-        return Tried::Refused(24);
+    if n < 4 || n % 2 == 1 {
+        return Err(Refusal::FanFront);
     }
-    let c = centre_of(coords, loops, points, nodes);
-    let clearance = c.clearance;
-    if !float::is_finite(clearance) | (clearance <= 0.0) {
-        return Tried::Refused(26);
+    let Centre {
+        point,
+        clearance,
+        ..
+    } = centre_of(coords, loops, points, nodes);
+    if !float::is_finite(clearance) || clearance <= 0.0 {
+        return Err(Refusal::Centre);
     }
-    if (4096 < points.len() / 2 + 1) | (4096 < quads + n / 2) {
-        return Tried::Refused(21);
+    if 4096 < points.len() / 2 + 1 || 4096 < quads + n / 2 {
+        return Err(Refusal::Full);
     }
-    let p = c.point;
-    if !all_pass(points, nodes, p, limit) {
-        return Tried::Refused(27);
+    if !all_pass(points, nodes, point, limit) {
+        return Err(Refusal::Corner);
     }
-    Tried::Stands(p)
+    Ok(point)
 }

@@ -9,17 +9,13 @@ use near::near_digits;
 
 mod near;
 
-// `x.abs()`
 pub fn absolute(x: f64) -> f64
     ensures { result ≡ helpers.absolute x }
 {
-    if x == 0.0 {
-        return 0.0;
-    }
-    if x < 0.0 { -x } else { x }
+    x.abs()
 }
 
-// `a.min(b)`
+// Rust's `a.min(b)`; std's promises no sign where both are zeros.
 pub fn lesser(a: f64, b: f64) -> f64
     ensures { result ≡ helpers.lesser a b }
 {
@@ -29,7 +25,7 @@ pub fn lesser(a: f64, b: f64) -> f64
     if b < a { b } else { a }
 }
 
-// `a.max(b)`
+// Rust's `a.max(b)`; std's promises no sign here either.
 pub fn greater(a: f64, b: f64) -> f64
     ensures { result ≡ helpers.greater a b }
 {
@@ -39,24 +35,16 @@ pub fn greater(a: f64, b: f64) -> f64
     if a < b { b } else { a }
 }
 
-// `x.clamp(0.0, 1.0)`
 pub fn clamp_unit(x: f64) -> f64
     ensures { result ≡ helpers.clamp_unit x }
 {
-    if x < 0.0 {
-        0.0
-    } else if x > 1.0 {
-        1.0
-    } else {
-        x
-    }
+    x.clamp(0.0, 1.0)
 }
 
-// `x.is_finite()`: only a finite number differs from itself by 0.
 pub fn is_finite(x: f64) -> bool
     ensures { result ≡ helpers.is_finite x }
 {
-    x - x == 0.0
+    x.is_finite()
 }
 
 // `x.round() as usize`: below 2^63 the whole part of 2x says on which side of the half x lies.
@@ -88,8 +76,7 @@ fn whole_root(a: u64) -> u64
     let mut left = a;
     let mut rest = 0u64;
     let mut q = 0u64;
-    let mut i = 0u64;
-    while i < 54 {
+    for _ in 0..54u64 {
         rest = rest * 4 + left / LEAD;
         left = left % LEAD * 4;
         let odd = q * 4 + 1;
@@ -98,7 +85,6 @@ fn whole_root(a: u64) -> u64
             rest = rest - odd;
             q = q + 1;
         }
-        i += 1;
     }
     q
 }
@@ -118,8 +104,7 @@ fn normal_bits(b: u64) -> u64
     ensures { result ≡ ((b / 2 ^ 52 + 51) / 2 + 485) * 2 ^ 52 + (whole_root 54 ((b % 2 ^ 52 + 2 ^ 52) * ((b / 2 ^ 52 + 51) % 2 + 1) * 4 ^ 27) + 1) / 2 }
 {
     let w = b / LEAD + 51;
-    let g = near_digits((b + LEAD) % (LEAD * 2));
-    if g != 0 {
+    if let Some(g) = near_digits((b + LEAD) % (LEAD * 2)) {
         return (w / 2 + 485) * LEAD + g;
     }
     root_bits(b % LEAD + LEAD, w)
@@ -133,7 +118,7 @@ pub fn root(x: f64) -> f64
         if x < 1.0 / 0.0 {
             let b = f64::to_bits(x);
             if b < LEAD {
-                let z = u64::leading_zeros(b) as u64;
+                let z = u64::from(b.leading_zeros());
                 return f64::from_bits(root_bits(b << (z - 11), 63 - z));
             }
             return f64::from_bits(normal_bits(b));

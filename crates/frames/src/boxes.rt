@@ -10,25 +10,11 @@ use fan_search::Box;
 pub fn box_of(coords: &[f64]) -> Box
     ensures { boxed result ≡ fans.box (ring_of coords.now (length coords.now / 2)) (length coords.now / 2) }
 {
-    let mut left = 1.0 / 0.0;
-    let mut low = 1.0 / 0.0;
-    let mut right = -1.0 / 0.0;
-    let mut high = -1.0 / 0.0;
-    let mut i = 0usize;
-    while i < coords.len() / 2 {
-        let p = geometry::point_at(coords, i);
-        left = float::lesser(left, p.x);
-        low = float::lesser(low, p.y);
-        right = float::greater(right, p.x);
-        high = float::greater(high, p.y);
-        i += 1;
+    let mut b = Box::empty();
+    for i in 0..coords.len() / 2 {
+        b = b.with(geometry::point_at(coords, i));
     }
-    Box {
-        left,
-        low,
-        right,
-        high,
-    }
+    b
 }
 
 pub fn margin_of(b: Box, h: f64) -> f64

@@ -1,157 +1,156 @@
 // The head of a picture, where its words begin, and its end.
-ghost use Rattle.text.specs.Putting.{Put, Room};
+ghost use Rattle.text.specs.Writing.{Fits, Same, Wrote};
 ghost use Rattle.fan_search.specs.Values.{boxed};
 ghost use Rattle.frames.specs.Views as views;
 ghost use Rattle.frames.specs.Views.{plain_head, plain_caption};
 
 use fan_search::Box;
 use shapes::{put_across, put_up};
-use text::{put_byte, put_bytes};
+use text::Writer;
 
-fn put_view(out: &mut [u8], at: usize, b: Box, m: f64) -> usize
-    requires { Room out.old at (views.view_text (boxed b) m) }
-    ensures { Put out.old at (views.view_text (boxed b) m) out.new result }
+fn put_view(w: &mut Writer, b: Box, m: f64)
+    requires { Fits w.old (views.view_text (boxed b) m) }
+    ensures put { Wrote w.old (views.view_text (boxed b) m) w.new }
+    ensures same { Same w.old w.new }
 {
-    let a1 = put_across(out, at, b.left - m);
-    let a2 = put_byte(out, a1, b' ');
-    let a3 = put_up(out, a2, b.high + m);
-    let a4 = put_byte(out, a3, b' ');
-    let a5 = put_across(out, a4, b.right - b.left + m + m);
-    let a6 = put_byte(out, a5, b' ');
-    put_across(out, a6, b.high - b.low + m + m + m)
+    put_across(w, b.left - m);
+    w.byte(b' ');
+    put_up(w, b.high + m);
+    w.byte(b' ');
+    put_across(w, b.right - b.left + m + m);
+    w.byte(b' ');
+    put_across(w, b.high - b.low + m + m + m);
 }
 
-fn put_size(out: &mut [u8], at: usize, b: Box, m: f64) -> usize
-    requires { Room out.old at (views.size_text (boxed b) m) }
-    ensures { Put out.old at (views.size_text (boxed b) m) out.new result }
+fn put_size(w: &mut Writer, b: Box, m: f64)
+    requires { Fits w.old (views.size_text (boxed b) m) }
+    ensures put { Wrote w.old (views.size_text (boxed b) m) w.new }
+    ensures same { Same w.old w.new }
 {
-    put_across(out, at, (b.right - b.left + m + m) / 72.0)
+    put_across(w, (b.right - b.left + m + m) / 72.0);
 }
 
-fn put_opening(out: &mut [u8], at: usize) -> usize
-    requires { Room out.old at views.opening }
-    ensures { Put out.old at views.opening out.new result }
+fn put_opening(w: &mut Writer)
+    requires { Fits w.old views.opening }
+    ensures put { Wrote w.old views.opening w.new }
+    ensures same { Same w.old w.new }
 {
-    put_bytes(
-        out,
-        at,
-        b"<svg xmlns=\"http://www.w3.org/2000/svg\" viewBox=\"",
-    )
+    w.bytes(b"<svg xmlns=\"http://www.w3.org/2000/svg\" viewBox=\"");
 }
 
-fn put_paper(out: &mut [u8], at: usize) -> usize
-    requires { Room out.old at views.paper }
-    ensures { Put out.old at views.paper out.new result }
+fn put_paper(w: &mut Writer)
+    requires { Fits w.old views.paper }
+    ensures put { Wrote w.old views.paper w.new }
+    ensures same { Same w.old w.new }
 {
-    put_bytes(
-        out,
-        at,
+    w.bytes(
         b"\">\n<style>svg{background:#fff;font-family:sans-serif}text{text-anchor:middle}path{stroke-linejoin:round;stroke-linecap:round;stroke:#fff;stroke-width:.05em}\n",
-    )
+    );
 }
 
-fn put_darker(out: &mut [u8], at: usize) -> usize
-    requires { Room out.old at views.darker }
-    ensures { Put out.old at views.darker out.new result }
+fn put_darker(w: &mut Writer)
+    requires { Fits w.old views.darker }
+    ensures put { Wrote w.old views.darker w.new }
+    ensures same { Same w.old w.new }
 {
-    put_bytes(
-        out,
-        at,
-        b".A{fill:#00224e}.B{fill:#123570}.C{fill:#3b496c}.D{fill:#575d6d}.E{fill:#707173}",
-    )
+    w.bytes(b".A{fill:#00224e}.B{fill:#123570}.C{fill:#3b496c}.D{fill:#575d6d}.E{fill:#707173}");
 }
 
-fn put_lighter(out: &mut [u8], at: usize) -> usize
-    requires { Room out.old at views.lighter }
-    ensures { Put out.old at views.lighter out.new result }
+fn put_lighter(w: &mut Writer)
+    requires { Fits w.old views.lighter }
+    ensures put { Wrote w.old views.lighter w.new }
+    ensures same { Same w.old w.new }
 {
-    put_bytes(
-        out,
-        at,
-        b".F{fill:#8a8678}.G{fill:#a59c74}.H{fill:#c3b369}.I{fill:#e1cc55}.J{fill:#fee838}\n",
-    )
+    w.bytes(b".F{fill:#8a8678}.G{fill:#a59c74}.H{fill:#c3b369}.I{fill:#e1cc55}.J{fill:#fee838}\n");
 }
 
-fn put_strokes(out: &mut [u8], at: usize) -> usize
-    requires { Room out.old at views.strokes }
-    ensures { Put out.old at views.strokes out.new result }
+fn put_strokes(w: &mut Writer)
+    requires { Fits w.old views.strokes }
+    ensures put { Wrote w.old views.strokes w.new }
+    ensures same { Same w.old w.new }
 {
-    put_bytes(
-        out,
-        at,
+    w.bytes(
         b".o{fill:none;stroke:#000;stroke-width:.1em}.f{fill:none;stroke:#d55e00;stroke-width:.3em}.n{stroke:#000;stroke-width:.2em}.s{stroke:#0072b2;stroke-width:.4em}</style>\n",
-    )
+    );
 }
 
-fn put_style(out: &mut [u8], at: usize) -> usize
-    requires { Room out.old at views.style }
-    ensures { Put out.old at views.style out.new result }
+fn put_style(w: &mut Writer)
+    requires { Fits w.old views.style }
+    ensures put { Wrote w.old views.style w.new }
+    ensures same { Same w.old w.new }
 {
-    let a1 = put_paper(out, at);
-    let a2 = put_darker(out, a1);
-    let a3 = put_lighter(out, a2);
-    put_strokes(out, a3)
+    put_paper(w);
+    put_darker(w);
+    put_lighter(w);
+    put_strokes(w);
 }
 
-pub fn put_head(out: &mut [u8], at: usize, b: Box, m: f64) -> usize
-    requires { Room out.old at (views.head_text (views.view_text (boxed b) m) (views.size_text (boxed b) m)) }
-    ensures { Put out.old at (views.head_text (views.view_text (boxed b) m) (views.size_text (boxed b) m)) out.new result }
+pub fn put_head(w: &mut Writer, b: Box, m: f64)
+    requires { Fits w.old (views.head_text (views.view_text (boxed b) m) (views.size_text (boxed b) m)) }
+    ensures put { Wrote w.old (views.head_text (views.view_text (boxed b) m) (views.size_text (boxed b) m)) w.new }
+    ensures same { Same w.old w.new }
 {
-    let a1 = put_opening(out, at);
-    let a2 = put_view(out, a1, b, m);
-    let a3 = put_bytes(out, a2, b"\" font-size=\"");
-    let a4 = put_size(out, a3, b, m);
-    put_style(out, a4)
+    put_opening(w);
+    put_view(w, b, m);
+    w.bytes(b"\" font-size=\"");
+    put_size(w, b, m);
+    put_style(w);
 }
 
-fn put_middle(out: &mut [u8], at: usize, b: Box) -> usize
-    requires { Room out.old at (views.middle_text (boxed b)) }
-    ensures { Put out.old at (views.middle_text (boxed b)) out.new result }
+fn put_middle(w: &mut Writer, b: Box)
+    requires { Fits w.old (views.middle_text (boxed b)) }
+    ensures put { Wrote w.old (views.middle_text (boxed b)) w.new }
+    ensures same { Same w.old w.new }
 {
-    put_across(out, at, b.left + 0.5 * (b.right - b.left))
+    put_across(w, b.left + 0.5 * (b.right - b.left));
 }
 
-fn put_under(out: &mut [u8], at: usize, b: Box, m: f64) -> usize
-    requires { Room out.old at (views.under_text (boxed b) m) }
-    ensures { Put out.old at (views.under_text (boxed b) m) out.new result }
+fn put_under(w: &mut Writer, b: Box, m: f64)
+    requires { Fits w.old (views.under_text (boxed b) m) }
+    ensures put { Wrote w.old (views.under_text (boxed b) m) w.new }
+    ensures same { Same w.old w.new }
 {
-    put_up(out, at, b.low - m - 0.5 * m)
+    put_up(w, b.low - m - 0.5 * m);
 }
 
-pub fn put_caption(out: &mut [u8], at: usize, b: Box, m: f64) -> usize
-    requires { Room out.old at (views.caption_text (views.middle_text (boxed b)) (views.under_text (boxed b) m)) }
-    ensures { Put out.old at (views.caption_text (views.middle_text (boxed b)) (views.under_text (boxed b) m)) out.new result }
+pub fn put_caption(w: &mut Writer, b: Box, m: f64)
+    requires { Fits w.old (views.caption_text (views.middle_text (boxed b)) (views.under_text (boxed b) m)) }
+    ensures put { Wrote w.old (views.caption_text (views.middle_text (boxed b)) (views.under_text (boxed b) m)) w.new }
+    ensures same { Same w.old w.new }
 {
-    let a1 = put_bytes(out, at, b"<text x=\"");
-    let a2 = put_middle(out, a1, b);
-    let a3 = put_bytes(out, a2, b"\" y=\"");
-    let a4 = put_under(out, a3, b, m);
-    put_bytes(out, a4, b"\">")
+    w.bytes(b"<text x=\"");
+    put_middle(w, b);
+    w.bytes(b"\" y=\"");
+    put_under(w, b, m);
+    w.bytes(b"\">");
 }
 
-pub fn put_closing(out: &mut [u8], at: usize) -> usize
-    requires { Room out.old at views.closing }
-    ensures { Put out.old at views.closing out.new result }
+pub fn put_closing(w: &mut Writer)
+    requires { Fits w.old views.closing }
+    ensures put { Wrote w.old views.closing w.new }
+    ensures same { Same w.old w.new }
 {
-    put_bytes(out, at, b"</text>\n</svg>\n")
+    w.bytes(b"</text>\n</svg>\n");
 }
 
 // ---- around words alone
 
-pub fn put_plain_head(out: &mut [u8], at: usize) -> usize
-    requires { Room out.old at plain_head }
-    ensures { Put out.old at plain_head out.new result }
+pub fn put_plain_head(w: &mut Writer)
+    requires { Fits w.old plain_head }
+    ensures put { Wrote w.old plain_head w.new }
+    ensures same { Same w.old w.new }
 {
-    let a1 = put_opening(out, at);
-    let a2 = put_bytes(out, a1, b"0 0 720 40");
-    let a3 = put_bytes(out, a2, b"\" font-size=\"");
-    let a4 = put_bytes(out, a3, b"10");
-    put_style(out, a4)
+    put_opening(w);
+    w.bytes(b"0 0 720 40");
+    w.bytes(b"\" font-size=\"");
+    w.bytes(b"10");
+    put_style(w);
 }
 
-pub fn put_plain_caption(out: &mut [u8], at: usize) -> usize
-    requires { Room out.old at plain_caption }
-    ensures { Put out.old at plain_caption out.new result }
+pub fn put_plain_caption(w: &mut Writer)
+    requires { Fits w.old plain_caption }
+    ensures put { Wrote w.old plain_caption w.new }
+    ensures same { Same w.old w.new }
 {
-    put_bytes(out, at, b"<text x=\"360\" y=\"25\">")
+    w.bytes(b"<text x=\"360\" y=\"25\">");
 }

@@ -103,9 +103,6 @@ closing-counted p r a b t some ha hb ht =
     }
 
 module _ {p : Point} {r : Ring} {i : ℕ} {inside below : Bool} (so_far : Counted p r i inside below) where
-  pub test_at : (a : Point) → a ≡ r.at i → below ≡ lt p.y a.y
-  test_at a h = rw h so_far.test
-
   pub one_counted : (a b : Point) (t : Bool) → i < r.size - 1 → a ≡ r.at i → b ≡ r.at (i + 1) → t ≡ ray_crosses p a b → Counted p r (i + 1) (not (beq inside t)) (lt p.y b.y)
   one_counted a b t h ha hb ht =
       let closing = ray_crosses p (r.at (r.size - 1)) (r.at 0) in

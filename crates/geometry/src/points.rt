@@ -28,7 +28,7 @@ pub fn put_point(pts: &mut [f64], i: usize, x: f64, y: f64)
 pub fn wide(node: u16) -> usize
     ensures { result ≡ node }
 {
-    node as usize
+    usize::from(node)
 }
 
 // The point that the `i`th of some node numbers names.

@@ -1,8 +1,10 @@
 // Measures of closed rings: of the first `n` points of a list, and of the points that a front's node numbers name.
 ghost use Rattle.std.specs.Prelude.{◌≡◌, ℕ, ◌*◌, ◌+◌, ◌<◌, ◌≤◌, get_or, length, false};
 ghost use Rattle.std.specs.Float.{inf};
+ghost use Rattle.geometry.specs.Rings as specs;
 ghost use Rattle.geometry.specs.Rings.{node_ring, ring_of};
 ghost use Rattle.geometry.specs.Measures.{front_length, in_polygon, ring_distance, sharp_at, signed_area};
+ghost use Rattle.geometry.specs.Squares as squares;
 
 use crate::Point;
 use crate::corners::sharp_turn;
@@ -11,7 +13,99 @@ use crate::sides::{
     area_term, crosses_between, nearer_of, ray_crosses, segment_square, side_length,
 };
 
-// The signed area of the ring of the first `n` points: three sides a turn, then those left, if any, one by one, and the closing side.
+// A closed ring, wherever its points come from.
+pub trait Ring {
+    ghost ring: { Self → specs.Ring };
+
+    fn size(&self) -> usize
+        ensures { result ≡ (ring self.now).size };
+
+    fn at(&self, i: usize) -> Point
+        requires { i < (ring self.now).size }
+        ensures { result ≡ (ring self.now).at i };
+}
+
+// The ring of the first `n` points of a list.
+#[derive(Clone, Copy)]
+pub struct FirstPoints<'a> {
+    pub pts: &'a [f64],
+    pub n: usize,
+    ghost fits: { n * 2 ≤ length pts.now },
+}
+
+impl<'a> Ring for FirstPoints<'a> {
+    ghost ring = { λ s. ring_of s.pts.now s.n };
+
+    fn size(&self) -> usize {
+        self.n
+    }
+
+    fn at(&self, i: usize) -> Point {
+        point_at(self.pts, i)
+    }
+}
+
+// The ring of the points that a front's node numbers name.
+#[derive(Clone, Copy)]
+pub struct NodePoints<'a> {
+    pub pts: &'a [f64],
+    pub nodes: &'a [u16],
+    ghost named: { (i : ℕ) → i < length nodes.now → get_or nodes.now i 0 * 2 + 1 < length pts.now },
+}
+
+impl<'a> Ring for NodePoints<'a> {
+    ghost ring = { λ s. node_ring s.pts.now s.nodes.now };
+
+    fn size(&self) -> usize {
+        self.nodes.len()
+    }
+
+    fn at(&self, i: usize) -> Point {
+        node_point(self.pts, self.nodes, i)
+    }
+}
+
+// Whether `p` is within a ring: the closing side first, then side by side. The test of an end is kept for the next side, and a
+// side whose ends are both above or both below is passed by.
+fn within<R: Ring>(p: Point, ring: &R) -> bool
+    ensures { result ≡ in_polygon p (R.ring ring.now) }
+{
+    let n = ring.size();
+    if n == 0 {
+        return false;
+    }
+    let last = n - 1;
+    let end = ring.at(last);
+    let first = ring.at(0);
+    let mut inside = ray_crosses(p, end, first);
+    let mut below = p.y < first.y;
+    for i in 0..last {
+        let b = ring.at(i + 1);
+        let below_b = p.y < b.y;
+        if below != below_b {
+            let a = ring.at(i);
+            inside = inside != crosses_between(p, a, b, below, below_b);
+            below = below_b;
+        }
+    }
+    inside
+}
+
+// `best`, or the least square of the distances from `p` to the sides of a ring.
+pub fn least_square<R: Ring>(short: f64, p: Point, best: f64, ring: &R) -> f64
+    ensures { result ≡ squares.least_square short p best (R.ring ring.now) (R.ring ring.now).size }
+{
+    let n = ring.size();
+    let mut least = best;
+    for i in 0..n {
+        let a = ring.at(i);
+        let b = ring.at(next_of(n, i));
+        least = nearer_of(segment_square(short, p, a, b), least);
+    }
+    least
+}
+
+// The signed area of the ring of the first `n` points: three sides a turn, then those left, and the closing side.
 pub fn signed_area(pts: &[f64], n: usize) -> f64
     requires { n * 2 ≤ length pts.now }
     ensures { result ≡ signed_area (ring_of pts.now n) }
@@ -23,6 +117,7 @@ pub fn signed_area(pts: &[f64], n: usize) -> f64
     let mut sum = 0.0;
     let mut a = first;
     let mut i = 1usize;
+    // at 4 points one side a turn takes a fifth longer, counted turns a quarter, and no way out between the loops a tenth
     while i + 2 < n {
         let b = point_at(pts, i);
         let c = point_at(pts, i + 1);
@@ -34,42 +129,20 @@ pub fn signed_area(pts: &[f64], n: usize) -> f64
     if i == n {
         return (sum + area_term(a, first)) / 2.0;
     }
-    while i < n {
-        let b = point_at(pts, i);
+    for j in i..n {
+        let b = point_at(pts, j);
         sum = sum + area_term(a, b);
         a = b;
-        i += 1;
     }
     (sum + area_term(a, first)) / 2.0
 }
 
-// Whether `p` is within the ring of the first `n` points: the closing side first, then side by side. The test of an end is kept for
-// the next side, and a side whose ends are both above or both below is passed by.
+// Whether `p` is within the ring of the first `n` points.
 pub fn in_polygon(p: Point, pts: &[f64], n: usize) -> bool
     requires { n * 2 ≤ length pts.now }
     ensures { result ≡ in_polygon p (ring_of pts.now n) }
 {
-    if n == 0 {
-        return false;
-    }
-    let last = n - 1;
-    let end = point_at(pts, last);
-    let first = point_at(pts, 0);
-    let mut inside = ray_crosses(p, end, first);
-    let mut below = p.y < first.y;
-    let mut i = 0usize;
-    while i < last {
-        let j = i + 1;
-        let b = point_at(pts, j);
-        let below_b = p.y < b.y;
-        if below != below_b {
-            let a = point_at(pts, i);
-            inside = inside != crosses_between(p, a, b, below, below_b);
-            below = below_b;
-        }
-        i = j;
-    }
-    inside
+    within(p, &FirstPoints { pts, n })
 }
 
 // Whether the corner at place `i` of the ring of the first `n` points is sharp.
@@ -96,44 +169,20 @@ pub fn front_length(pts: &[f64], nodes: &[u16]) -> f64
 {
     let n = nodes.len();
     let mut sum = 0.0;
-    let mut i = 0usize;
-    while i < n {
-        let j = next_of(n, i);
+    for i in 0..n {
         let a = node_point(pts, nodes, i);
-        let b = node_point(pts, nodes, j);
+        let b = node_point(pts, nodes, next_of(n, i));
         sum = sum + side_length(a, b);
-        i += 1;
     }
     sum
 }
 
-// Whether `p` is within a front, in the same way.
+// Whether `p` is within a front.
 pub fn in_front(p: Point, pts: &[f64], nodes: &[u16]) -> bool
     requires { (i : ℕ) → i < length nodes.now → get_or nodes.now i 0 * 2 + 1 < length pts.now }
     ensures { result ≡ in_polygon p (node_ring pts.now nodes.now) }
 {
-    let n = nodes.len();
-    if n == 0 {
-        return false;
-    }
-    let last = n - 1;
-    let end = node_point(pts, nodes, last);
-    let first = node_point(pts, nodes, 0);
-    let mut inside = ray_crosses(p, end, first);
-    let mut below = p.y < first.y;
-    let mut i = 0usize;
-    while i < last {
-        let j = i + 1;
-        let b = node_point(pts, nodes, j);
-        let below_b = p.y < b.y;
-        if below != below_b {
-            let a = node_point(pts, nodes, i);
-            inside = inside != crosses_between(p, a, b, below, below_b);
-            below = below_b;
-        }
-        i = j;
-    }
-    inside
+    within(p, &NodePoints { pts, nodes })
 }
 
 // The distance from `p` to a front: the root of the least square.
@@ -141,15 +190,5 @@ pub fn front_distance(p: Point, pts: &[f64], nodes: &[u16]) -> f64
     requires { (i : ℕ) → i < length nodes.now → get_or nodes.now i 0 * 2 + 1 < length pts.now }
     ensures { result ≡ ring_distance (inf false) p (node_ring pts.now nodes.now) (length nodes.now) }
 {
-    let n = nodes.len();
-    let mut best = 1.0 / 0.0;
-    let mut i = 0usize;
-    while i < n {
-        let j = next_of(n, i);
-        let a = node_point(pts, nodes, i);
-        let b = node_point(pts, nodes, j);
-        best = nearer_of(segment_square(1e-18, p, a, b), best);
-        i += 1;
-    }
-    float::root(best)
+    float::root(least_square(1e-18, p, 1.0 / 0.0, &NodePoints { pts, nodes }))
 }

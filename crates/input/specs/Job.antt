@@ -8,6 +8,7 @@ use Rattle.state.specs.State.{Lengths}
 use Rattle.state.specs.Outcome.{first_true, test}
 use Rattle.state.specs.Coordinates.{outside, wrong_coordinate}
 use Rattle.input.specs.declared.Options.{Options}
+use Rattle.input.specs.declared.Job as declared
 
 -- the coordinates (x, then y, one after the other), the loop lengths (outer first, then holes), the size h and the options
 pub record Job : Type 0 where
@@ -18,6 +19,10 @@ pub record Job : Type 0 where
 
 abbrev pub job : List Float → List ℕ → Float → Options → Job
 job coords loops h o = record { coords = coords; loops = loops; h = h; options = o }
+
+-- a job of the code, by what its slices hold
+abbrev pub job_of : declared.Job → Job
+job_of j = job j.coords.now j.loop_lengths.now j.h j.options
 
 -- 1 to 16 loops, as many as there can be fronts, and at most 2,048 pairs, as many as there can be front nodes
 abbrev pub loop_limit : ℕ

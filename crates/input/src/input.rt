@@ -2,10 +2,12 @@
 ghost use Rattle.std.specs.Prelude.{◌≡◌, Float};
 ghost use Rattle.state.specs.Call.{lengths_of};
 ghost use Rattle.input.specs.declared.Options as declared;
+ghost use Rattle.state.specs.Lent.{lengths_in};
+ghost use Rattle.state.specs.Refusals.{refusal_of};
 ghost use Rattle.input.specs.Job as inputs;
 
-use crate::Options;
-use state::{outside, sum_of, wrong_coordinate};
+use crate::{Job, Options};
+use state::{Lent, Refusal, outside, sum_of, wrong_coordinate};
 
 fn wrong_lengths(points: usize, quads: usize, front_nodes: usize, front_lengths: usize) -> bool
     ensures { result ≡ inputs.wrong_lengths (lengths_of points quads front_nodes front_lengths) }
@@ -87,18 +89,22 @@ fn wrong_options(h: f64, options: Options) -> bool
     outside(0.02, 0.9, options.corner_limit)
 }
 
-pub fn input_number(
-    coords: &[f64],
-    loop_lengths: &[u16],
-    h: f64,
-    options: Options,
+// The test of a job and of the lengths of the lent buffers.
+pub fn check_input(
+    job: &Job,
     points: usize,
     quads: usize,
     front_nodes: usize,
     front_lengths: usize,
-) -> u32
-    ensures { result ≡ inputs.input_number (inputs.job coords.now loop_lengths.now h options) (lengths_of points quads front_nodes front_lengths) }
+) -> Result<(), Refusal>
+    ensures { refusal_of result ≡ inputs.input_number (inputs.job_of job.now) (lengths_of points quads front_nodes front_lengths) }
 {
+    let Job {
+        coords,
+        loop_lengths,
+        h,
+        options,
+    } = *job;
     if wrong_shape(
         coords,
         loop_lengths,
@@ -107,22 +113,37 @@ pub fn input_number(
         front_nodes,
         front_lengths,
     ) {
-        return 1;
+        return Err(Refusal::Shape);
     }
     if wrong_size(h) {
-        return 2;
+        return Err(Refusal::Size);
     }
     if wrong_options(h, options) {
-        return 3;
+        return Err(Refusal::Options);
     }
     if loop_lengths[0] < 3 {
-        return 4;
+        return Err(Refusal::OuterLoop);
     }
     if wrong_coordinate(1000000.0, coords) {
-        return 5;
+        return Err(Refusal::Coordinate);
     }
     if geometry::domain_area(coords, loop_lengths) <= 0.0 {
-        return 6;
+        return Err(Refusal::Area);
     }
-    0
+    Ok(())
+}
+
+impl Job<'_> {
+    // The same, of lent buffers.
+    pub fn check(&self, lent: &Lent) -> Result<(), Refusal>
+        ensures { refusal_of result ≡ inputs.input_number (inputs.job_of self.now) (lengths_in lent.now) }
+    {
+        check_input(
+            self,
+            lent.points.len(),
+            lent.quads.len(),
+            lent.front_nodes.len(),
+            lent.front_lengths.len(),
+        )
+    }
 }

@@ -1,4 +1,4 @@
-// A job's input: the options, and the numbers 1 to 6 of document 01. Every call tests its job by `input_number`.
+// A job and its options, and the test of a job that every call makes: the numbers 1 to 6.
 #![tactic(auto)]
 
 ghost use Rattle.std.specs.Prelude.{◌≡◌};
@@ -6,8 +6,6 @@ ghost use Rattle.input.specs.Defaults as options;
 ghost use Rattle.input.specs.Limit.{default_limit};
 
 mod input;
-
-pub use input::input_number;
 
 // The Rust's `Options`, by value: margins, fractions and gaps in sizes h, the limit of passes, and `seam`; and the
 // corner limit, which every corner value of a quad has to be above.
@@ -31,6 +29,16 @@ impl Options {
     pub const MAX_ROW_ROUNDS: u64 = 32;
 
     pub const CORNER_LIMIT: f64 = 0.08715574274765817;
+}
+
+// A job: the outline's coordinates (x, then y, one after the other), the lengths of its loops (the outer one first, then the
+// holes), the size h and the options.
+#[derive(Clone, Copy)]
+pub struct Job<'a> {
+    pub coords: &'a [f64],
+    pub loop_lengths: &'a [u16],
+    pub h: f64,
+    pub options: Options,
 }
 
 // The default options, seam false: the constants of `Options` are document 01's numbers.

@@ -11,9 +11,7 @@ use lib.ListN.{length}
 use Rattle.geometry.specs.Rings.{Ring}
 use Rattle.geometry.specs.Domain.{rings, sum_of}
 use Rattle.state.specs.declared.Counts.{Counts}
-use Rattle.state.specs.declared.Answer.{Answer}
-use Rattle.state.specs.declared.Answer.TheVariants.{Done, Refused}
-use Rattle.state.specs.State.{State, Held, Lengths, zeros, counts_of, nodes, written, reading, no_counts}
+use Rattle.state.specs.State.{State, Held, Lengths, zeros, nodes, written, reading}
 use Rattle.state.specs.Outcome.{Outcome, refused, gives}
 use Rattle.state.specs.Call.{Left, held, left, job_left, state_left}
 use Rattle.state.specs.Sound.{Sound, Clean}
@@ -35,31 +33,31 @@ use Rattle.rules.proofs.SampleGood.{sampled_stands}
 use Rattle.rules.proofs.SampleSizes.{limited}
 
 -- the number of an answer that is done is no refusal's
-never : {A : Type 0} {c : Counts} {n : ℕ} → ◌≡◌ {A = Answer} (Done c) (Refused n) → A
+never : {A : Type 0} {c : Counts} {n : ℕ} → ◌≡◌ {A = Outcome Counts} (gives c) (refused n) → A
 never e = let z : ◌≡◌ {A = ℕ} 0 1 = cc in absurd (zero_one z)
 
 -- ---- a step that is refused leaves zeros
 
-pub cleared : (l : Lengths) (n : ℕ) (o : Outcome State) → o ≡ refused n → (z : Held) → z ≡ zeros l → left (Refused n) z ≡ job_left l o
+pub cleared : (l : Lengths) (n : ℕ) (o : Outcome State) → o ≡ refused n → (z : Held) → z ≡ zeros l → left (refused n) z ≡ job_left l o
 unfolding job_left
 cleared l n o e z f = rw (e, f) refl
 
 -- ---- the closings
 
 module _ (b : Held) (o : Outcome State) where
-  pub state_refused : (n : ℕ) (x : Held) → left (Refused n) x ≡ state_left b o → o ≡ refused n
+  pub state_refused : (n : ℕ) (x : Held) → left (refused n) x ≡ state_left b o → o ≡ refused n
   unfolding state_left
   state_refused n x e = go o e
     where
-      go : (o : Outcome State) → left (Refused n) x ≡ state_left b o → o ≡ refused n
-      go (refused m) k = let q : ◌≡◌ {A = Answer} (Refused m) (Refused n) = sym (ap (λ (y : Left). y.answer) k) in cc
+      go : (o : Outcome State) → left (refused n) x ≡ state_left b o → o ≡ refused n
+      go (refused m) k = let q : ◌≡◌ {A = Outcome Counts} (refused m) (refused n) = sym (ap (λ (y : Left). y.answer) k) in cc
       go (gives u) k = never (sym (ap (λ (y : Left). y.answer) k))
 
-  pub state_done : (l : Lengths) (c : Counts) (x : Held) → left (Done c) x ≡ state_left b o → left (Done c) x ≡ job_left l o
+  pub state_done : (l : Lengths) (c : Counts) (x : Held) → left (gives c) x ≡ state_left b o → left (gives c) x ≡ job_left l o
   unfolding state_left job_left
   state_done l c x e = go o e
     where
-      go : (o : Outcome State) → left (Done c) x ≡ state_left b o → left (Done c) x ≡ job_left l o
+      go : (o : Outcome State) → left (gives c) x ≡ state_left b o → left (gives c) x ≡ job_left l o
       go (refused m) k = never (ap (λ (y : Left). y.answer) k)
       go (gives u) k = k
 
@@ -110,15 +108,15 @@ sampled_none j s e = from_none j.h j.options.corner_margin 0 true empty (rings j
 
 module _ (j : Job) (l : Lengths) where
   -- a job that its input or a loop refuses
-  pub sample_refused : (n : ℕ) (x : Held) → left (Refused n) x ≡ sample_call j l → left (Refused n) x ≡ job_call j l
+  pub sample_refused : (n : ℕ) (x : Held) → left (refused n) x ≡ sample_call j l → left (refused n) x ≡ job_call j l
   unfolding sample_call job_call on_job job_left paved and_then
   sample_refused n x e = go (eqb (input_number j l) 0) (sampled j) e
     where
       after : Outcome State → Outcome State
       after o = and_then (and_then o (some_passes j j.options.max_row_rounds)) (closings j.options.corner_limit)
 
-      go : (t : Bool) (o : Outcome State) → left (Refused n) x ≡ job_left l (cond t o (refused (input_number j l)))
-          → left (Refused n) x ≡ job_left l (cond t (after o) (refused (input_number j l)))
+      go : (t : Bool) (o : Outcome State) → left (refused n) x ≡ job_left l (cond t o (refused (input_number j l)))
+          → left (refused n) x ≡ job_left l (cond t (after o) (refused (input_number j l)))
       go false o k = k
       go true (refused m) k = k
       go true (gives s) k = never (sym (ap (λ (y : Left). y.answer) k))
@@ -130,11 +128,11 @@ module _ (j : Job) (l : Lengths) where
     pub sampled_is : sampled j ≡ gives state
     pub held_is : b ≡ written state
 
-  pub started : (c : Counts) (x : Held) → left (Done c) x ≡ sample_call j l → Started (held x.points x.quads x.front_nodes x.front_lengths c)
+  pub started : (c : Counts) (x : Held) → left (gives c) x ≡ sample_call j l → Started (held x.points x.quads x.front_nodes x.front_lengths c)
   unfolding sample_call on_job job_left
   started c x e = go (eqb (input_number j l) 0) refl (sampled j) refl e
     where
-      go : (t : Bool) → eqb (input_number j l) 0 ≡ t → (o : Outcome State) → sampled j ≡ o → left (Done c) x ≡ job_left l (cond t o (refused (input_number j l)))
+      go : (t : Bool) → eqb (input_number j l) 0 ≡ t → (o : Outcome State) → sampled j ≡ o → left (gives c) x ≡ job_left l (cond t o (refused (input_number j l)))
           → Started (held x.points x.quads x.front_nodes x.front_lengths c)
       go false f o q k = never (ap (λ (y : Left). y.answer) k)
       go true f (refused m) q k = never (ap (λ (y : Left). y.answer) k)

@@ -7,8 +7,7 @@ use native.Mathlib.Omega.{arith}
 use lib.Ieee.{Float, binary64, of_int}
 use lib.Ieee.Fits.{of_int-fits}
 use Rattle.state.specs.State.{State, joined, written, reading, counts_of}
-use Rattle.state.specs.declared.Answer.TheVariants.{Done}
-use Rattle.state.specs.Outcome.{gives}
+use Rattle.state.specs.Outcome.{gives, Outcome}
 use Rattle.state.specs.Call.{Left, number_of, lent, job_left}
 use Rattle.state.proofs.Written.{reading-written}
 use Rattle.input.specs.Job.{Job}

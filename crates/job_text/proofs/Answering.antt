@@ -18,12 +18,11 @@ use Rattle.state.proofs.Basics.{or_true}
 use Rattle.state.proofs.Stores.{front_part}
 use Rattle.job_text.specs.Drawing.{Place, Drawing, size_word, outer_word, loops, job_of}
 use Rattle.job_text.specs.Reading.{Read, read, and_then, read_size, read_holes, read_job}
-use Rattle.job_text.specs.Answers.{measure_of, as_whole, loop_at, loops_from, coordinates_of, Stored, stored, storing, stored_in, too_many, answer_of, Holds, JobReadIs}
+use Rattle.job_text.specs.Answers.{measure_of, as_whole, loop_at, loops_from, coordinates_of, Stored, stored, storing, too_many, answer_of, Holds, JobReadIs}
 use Rattle.job_text.specs.declared.lines.Measure.{Measure}
-use Rattle.job_text.specs.declared.lines.Measure.TheVariants as measure
 use Rattle.job_text.specs.declared.loops.LoopsRead.{LoopsRead}
-use Rattle.job_text.specs.declared.loops.LoopsRead.TheVariants as loops_read
-use Rattle.job_text.specs.declared.jobs.JobRead.TheVariants as job_read
+use Rattle.job_text.specs.declared.jobs.TextError.TheVariants.{Unreadable, TooMany}
+use Rattle.std.specs.Prelude.{Some, None, Ok, Err}
 use Rattle.job_text.proofs.Steps.{some_is}
 use Rattle.job_text.proofs.Ending.{EndOf, size_end}
 use Rattle.job_text.proofs.Points.{There, measured, not_measured}
@@ -42,21 +41,21 @@ no_whole : (o : Option (Read ℕ)) → as_whole o ≡ none → o ≡ none
 no_whole none e = refl
 no_whole (some g) e = absurd (none_some (sym e))
 
--- the size x is read from `at` on, and q is the place behind it
-pub record Sized (t : List ℕ) (at : ℕ) (x : Float) (q : ℕ) : Type 0 where
+-- the size m is read from `at` on, with the place behind it
+pub record Sized (t : List ℕ) (at : ℕ) (m : Measure) : Type 0 where
   pub found : Read ℕ
   pub is : read_size (drop at t) ≡ some found
-  pub value : x ≡ of_int binary64 (pos found.value)
-  pub rest : found.rest ≡ drop q t
-  pub within : (at ≤ q) × (q ≤ length t)
+  pub value : m.value ≡ of_int binary64 (pos found.value)
+  pub rest : found.rest ≡ drop m.next t
+  pub within : (at ≤ m.next) × (m.next ≤ length t)
 
-module _ (t : List ℕ) (at : ℕ) (r : Measure) (answer : r ≡ measure_of t (as_whole (read_size (drop at t)))) where
+module _ (t : List ℕ) (at : ℕ) where
   size-ends : (f : Read ℤ) → as_whole (read_size (drop at t)) ≡ some f → EndOf 0 (drop at t) f.rest
   size-ends f e = let g = as_whole_lem (read_size (drop at t)) e in rw g.2 (size_end (drop at t) g.1)
 
-  pub sized : at ≤ length t → (x : Float) (q : ℕ) → r ≡ measure.Is x q → Sized t at x q
-  sized h x q e =
-      let m = measured t at (as_whole (read_size (drop at t))) r answer size-ends h x q e in
+  pub sized : at ≤ length t → (m : Measure) → Some m ≡ measure_of t (as_whole (read_size (drop at t))) → Sized t at m
+  sized h x e =
+      let m = measured t at (as_whole (read_size (drop at t))) size-ends h x e in
       let g = as_whole_lem (read_size (drop at t)) m.is in
       record {
         found = g.0;
@@ -66,8 +65,8 @@ module _ (t : List ℕ) (at : ℕ) (r : Measure) (answer : r ≡ measure_of t (a
         within = m.within;
       }
 
-  pub not_sized : r ≡ measure.No → read_size (drop at t) ≡ none
-  not_sized e = no_whole (read_size (drop at t)) (not_measured t at (as_whole (read_size (drop at t))) r answer e)
+  pub not_sized : None ≡ measure_of t (as_whole (read_size (drop at t))) → read_size (drop at t) ≡ none
+  not_sized e = no_whole (read_size (drop at t)) (not_measured t at (as_whole (read_size (drop at t))) e)
 
 -- ---- the whole text
 
@@ -97,43 +96,43 @@ module _ (t : List ℕ) where
       unfolding read_job and_then
       no_size e = rw (le-ltb 65536 (length t) short, a.is, e)
 
-      module _ {x : Float} {lf : ℕ} (m : Sized t 5 x lf) where
-        pub no_outer : behind outer_word (drop lf t) ≡ none → read_job t ≡ none
+      module _ {x : Measure} (m : Sized t 5 x) where
+        pub no_outer : behind outer_word (drop x.next t) ≡ none → read_job t ≡ none
         unfolding read_job and_then
         no_outer e = rw (le-ltb 65536 (length t) short, a.is, m.is, m.rest, e)
 
-        module _ (b : There outer_word t lf) where
+        module _ (b : There outer_word t x.next) where
           drawn : List (List Place) → Drawing
-          drawn holes = record { size = m.found.value; outer = (loop_at t (lf + 7)).value; holes = holes }
+          drawn holes = record { size = m.found.value; outer = (loop_at t (x.next + 7)).value; holes = holes }
 
           holes_of : Option (List (List Place))
-          holes_of = read_holes (suc (length (loop_at t (lf + 7)).rest)) (loop_at t (lf + 7)).rest
+          holes_of = read_holes (suc (length (loop_at t (x.next + 7)).rest)) (loop_at t (x.next + 7)).rest
 
           job_is : read_job t ≡ and_then holes_of (λ (holes : List (List Place)). some (drawn holes))
           unfolding read_job and_then drawn holes_of
           job_is = rw (le-ltb 65536 (length t) short, a.is, m.is, m.rest, b.is)
 
-          module _ (c c' : List Float) (l l' : List ℕ) (r : LoopsRead) (answer : stored_in r c' l' ≡ storing (stored c l 0 0) (loops_from (drop (lf + 7) t))) where
-            pub no_loops : r ≡ loops_read.No → read_job t ≡ none
+          module _ (c c' : List Float) (l l' : List ℕ) where
+            pub no_loops : none ≡ storing (stored c l 0 0) (loops_from (drop (x.next + 7) t)) → read_job t ≡ none
             unfolding and_then storing loops_from holes_of
-            no_loops e = by holes_of refl (sym (ap (λ (q : LoopsRead). stored_in q c' l') e) ∙ answer)
+            no_loops e = by holes_of refl e
               where
-                by : (o : Option (List (List Place))) → holes_of ≡ o → none ≡ storing (stored c l 0 0) (and_then o (λ (holes : List (List Place)). some ((loop_at t (lf + 7)).value ∷ holes))) → read_job t ≡ none
+                by : (o : Option (List (List Place))) → holes_of ≡ o → none ≡ storing (stored c l 0 0) (and_then o (λ (holes : List (List Place)). some ((loop_at t (x.next + 7)).value ∷ holes))) → read_job t ≡ none
                 by none i e = job_is ∙ rw i
                 by (some hs) i e = absurd (none_some e)
 
-            pub loops_are : (pairs n : ℕ) → r ≡ loops_read.Are pairs n → JobFound t x c l (stored c' l' pairs n)
+            pub loops_are : (r : LoopsRead) → some (stored c' l' r.pairs r.loops) ≡ storing (stored c l 0 0) (loops_from (drop (x.next + 7) t)) → JobFound t x.value c l (stored c' l' r.pairs r.loops)
             unfolding and_then loops_from holes_of drawn
-            loops_are pairs n e = by holes_of refl (sym (ap (λ (q : LoopsRead). stored_in q c' l') e) ∙ answer)
+            loops_are r e = by holes_of refl e
               where
-                by : (o : Option (List (List Place))) → holes_of ≡ o → some (stored c' l' pairs n) ≡ storing (stored c l 0 0) (and_then o (λ (holes : List (List Place)). some ((loop_at t (lf + 7)).value ∷ holes))) → JobFound t x c l (stored c' l' pairs n)
+                by : (o : Option (List (List Place))) → holes_of ≡ o → some (stored c' l' r.pairs r.loops) ≡ storing (stored c l 0 0) (and_then o (λ (holes : List (List Place)). some ((loop_at t (x.next + 7)).value ∷ holes))) → JobFound t x.value c l (stored c' l' r.pairs r.loops)
                 by none i e = absurd (none_stored (stored c l 0 0) e)
                 by (some hs) i e = record { drawing = drawn hs; is = job_is ∙ rw i; size = m.value; stores = e }
 
 -- ---- and the answer
 
 module _ (t : List ℕ) (c : List Float) (l : List ℕ) where
-  pub unreadable : read_job t ≡ none → JobReadIs t c l job_read.Unreadable
+  pub unreadable : read_job t ≡ none → JobReadIs t c l (Err Unreadable)
   unfolding answer_of
   unreadable e = record { answer = rw e; holds = λ d f m. absurd (none_some (sym e ∙ f)) }
 
@@ -146,15 +145,15 @@ module _ (t : List ℕ) (x : Float) (c : List Float) (l : List ℕ) (s : Stored)
   unfolding storing
   loops_is = ap (λ (q : Stored). q.loops) (some_is f.stores) ∙ zero-add (length (loops f.drawing))
 
-  many : too_many f.drawing ≡ true → JobReadIs t s.coords s.lengths job_read.TooMany
+  many : too_many f.drawing ≡ true → JobReadIs t s.coords s.lengths (Err TooMany)
   unfolding answer_of
   many e = record { answer = rw (f.is, e); holds = λ d g m. absurd (true≢false (sym e ∙ ap too_many (some_is (sym f.is ∙ g)) ∙ m)) }
 
-  pub many_loops : loop_limit < s.loops → JobReadIs t s.coords s.lengths job_read.TooMany
+  pub many_loops : loop_limit < s.loops → JobReadIs t s.coords s.lengths (Err TooMany)
   unfolding too_many
   many_loops h = many (rw (lt-ltb loop_limit (length (loops f.drawing)) (rw loops_is at h)))
 
-  pub many_pairs : pair_limit < s.pairs → JobReadIs t s.coords s.lengths job_read.TooMany
+  pub many_pairs : pair_limit < s.pairs → JobReadIs t s.coords s.lengths (Err TooMany)
   unfolding too_many
   many_pairs h = many (rw (lt-ltb pair_limit (length (joined (loops f.drawing))) (rw total_is at h)) (or_true (ltb loop_limit (length (loops f.drawing)))))
 
@@ -174,7 +173,7 @@ module _ (t : List ℕ) (x : Float) (c : List Float) (l : List ℕ) (s : Stored)
           lengths = front_part l (map length (loops d)) s.lengths (length (loops d)) (omega arith) (sym (length-map (loops d) length)) (ap (λ (q : Stored). q.lengths) (some_is f.stores));
         }
 
-    pub job_read_lem : JobReadIs t s.coords s.lengths (job_read.Is x s.pairs s.loops)
+    pub job_read_lem : JobReadIs t s.coords s.lengths (Ok (record { size = x; pairs = s.pairs; loops = s.loops }))
     unfolding answer_of
     job_read_lem = record {
       answer = rw (f.is, not_many, f.size, total_is, loops_is);

@@ -10,8 +10,8 @@ use native.Mathlib.Omega.{arith}
 use borrow.Author.Tests.{eqb-true, eqb-false, eq-eqb, ne_eqb}
 use lib.Dec.{eqb}
 use lib.Ieee.{Float}
-use lib.ListN.{length, drop, set, length-append, length-drop, length-set}
-use lib.Seq.{sets, set_out}
+use lib.ListN.{length, drop, set, length-append, length-drop}
+use lib.Seq.{sets}
 use Rattle.state.specs.State.{joined}
 use Rattle.state.proofs.Stores.{sets-append}
 use Rattle.state.proofs.Growing.{joined-append}
@@ -19,7 +19,7 @@ use Rattle.text.specs.Fields.{behind}
 use Rattle.job_text.specs.Drawing.{Place, coordinates, hole_word}
 use Rattle.job_text.specs.Reading.{Read, and_then, read_loop, read_holes}
 use Rattle.job_text.specs.Answers.{loop_at, holes_at, loops_from, coordinates_of, LoopReadIs, Stored, stored, storing}
-use Rattle.job_text.specs.declared.loops.LoopRead.{LoopRead}
+use Rattle.text.specs.declared.storing.Counted.{Counted}
 use Rattle.job_text.proofs.Ending.{end_length, behind_end, word_end}
 use Rattle.job_text.proofs.Points.{There}
 use Rattle.job_text.proofs.Following.{loop_end, loop_place}
@@ -110,7 +110,7 @@ module _ (t : List ℕ) (next : ℕ) (s : Stored) where
       let l = length-drop next t in
       ap (storing s) (no_hole (length (drop next t)) (drop next t) (λ z. omega arith) e)
 
-  pub holes_step : There hole_word t next → (coords : List Float) (lengths : List ℕ) (r : LoopRead) → LoopReadIs t (next + 5) s.pairs s.coords coords r → lengths ≡ set s.lengths s.loops r.count
+  pub holes_step : There hole_word t next → (coords : List Float) (lengths : List ℕ) (r : Counted) → LoopReadIs t (next + 5) s.pairs s.coords coords r → lengths ≡ set s.lengths s.loops r.count
       → storing s (holes_at t next) ≡ storing (stored coords lengths (s.pairs + r.count) (s.loops + 1)) (holes_at t r.next)
   holes_step w coords lengths r i e =
       let a = drop (next + 5) t in
@@ -122,7 +122,7 @@ module _ (t : List ℕ) (next : ℕ) (s : Stored) where
       ap (storing s) one ∙ storing-behind s (hole a) (holes_at t r.next) ∙ rw (i.stored, e, i.count)
 
 -- the outer loop, and then the holes
-pub loops_step : (t : List ℕ) (at : ℕ) (c : List Float) (l : List ℕ) → at ≤ length t → (coords : List Float) (lengths : List ℕ) (r : LoopRead) → LoopReadIs t at 0 c coords r → lengths ≡ set l 0 r.count
+pub loops_step : (t : List ℕ) (at : ℕ) (c : List Float) (l : List ℕ) → at ≤ length t → (coords : List Float) (lengths : List ℕ) (r : Counted) → LoopReadIs t at 0 c coords r → lengths ≡ set l 0 r.count
     → storing (stored c l 0 0) (loops_from (drop at t)) ≡ storing (stored coords lengths r.count 1) (holes_at t r.next)
 unfolding loops_from
 loops_step t at c l h coords lengths r i e =
@@ -131,8 +131,3 @@ loops_step t at c l h coords lengths r i e =
     let n = i.count in
     let z : 0 + length o.value ≡ r.count = omega arith in
     storing-behind (stored c l 0 0) o (read_holes (suc (length o.rest)) o.rest) ∙ rw (z, i.stored, e, n, p.2)
-
--- ---- a point beyond the buffer's end is not stored
-
-pub point_out : {A : Type 0} (l : List A) (i : ℕ) (x y : A) → length l ≤ i * 2 → sets l (i * 2) (x ∷ y ∷ []) ≡ l
-point_out l i x y h = set_out (set l (i * 2) x) (suc (i * 2)) y (rw length-set (omega arith)) ∙ set_out l (i * 2) x h

@@ -18,7 +18,7 @@ use Rattle.text.proofs.Spelling.{at_place, no_byte}
 use Rattle.job_text.specs.Drawing.{size_most, coordinate_most}
 use Rattle.job_text.specs.Reading.{and_then, read_whole, read_size}
 use Rattle.job_text.specs.Answers.{place_in, measure_of, as_whole}
-use Rattle.job_text.specs.declared.lines.Measure.TheVariants as measure
+use Rattle.std.specs.Prelude.{Some, None}
 use Rattle.job_text.proofs.Ending.{place_of_end}
 
 -- ---- the f64 of a number below zero
@@ -64,28 +64,28 @@ module _ (t : List ℕ) (at end : ℕ) (ends : end ≡ field_end t at) (h : at �
   place_here = place_of_end t end end_in.1
 
   -- a coordinate
-  pub whole-read : {z : ℤ} → whole_of coordinate_most (slice at end t) ≡ some z → measure.Is (of_int binary64 z) end ≡ measure_of t (read_whole (drop at t))
+  pub whole-read : {z : ℤ} → whole_of coordinate_most (slice at end t) ≡ some z → Some (record { value = of_int binary64 z; next = end }) ≡ measure_of t (read_whole (drop at t))
   unfolding read_whole and_then
   whole-read e = rw (field_here, e, after_here, place_here)
 
-  pub minus_read : (n : ℕ) → whole_of coordinate_most (slice at end t) ≡ negated (some n) → (n ≡ 0 → ⊥) → measure.Is (neg (of_int binary64 (pos n))) end ≡ measure_of t (read_whole (drop at t))
+  pub minus_read : (n : ℕ) → whole_of coordinate_most (slice at end t) ≡ negated (some n) → (n ≡ 0 → ⊥) → Some (record { value = neg (of_int binary64 (pos n)); next = end }) ≡ measure_of t (read_whole (drop at t))
   minus_read zero e p = absurd (p refl)
   minus_read (suc n) e p = rw (below_zero_lem n) (whole-read e)
 
-  pub whole_unread : whole_of coordinate_most (slice at end t) ≡ none → measure.No ≡ measure_of t (read_whole (drop at t))
+  pub whole_unread : whole_of coordinate_most (slice at end t) ≡ none → None ≡ measure_of t (read_whole (drop at t))
   unfolding read_whole and_then
   whole_unread e = rw (field_here, e)
 
   -- a size
-  pub size-read : {n : ℕ} → natural_of size_most (slice at end t) ≡ some n → (n ≡ 0 → ⊥) → measure.Is (of_int binary64 (pos n)) end ≡ measure_of t (as_whole (read_size (drop at t)))
+  pub size-read : {n : ℕ} → natural_of size_most (slice at end t) ≡ some n → (n ≡ 0 → ⊥) → Some (record { value = of_int binary64 (pos n); next = end }) ≡ measure_of t (as_whole (read_size (drop at t)))
   unfolding read_size and_then
   size-read {n} e p = rw (field_here, e, ne_eqb n 0 p, after_here, place_here)
 
-  pub size_zero : {n : ℕ} → natural_of size_most (slice at end t) ≡ some n → n ≡ 0 → measure.No ≡ measure_of t (as_whole (read_size (drop at t)))
+  pub size_zero : {n : ℕ} → natural_of size_most (slice at end t) ≡ some n → n ≡ 0 → None ≡ measure_of t (as_whole (read_size (drop at t)))
   unfolding read_size and_then
   size_zero {n} e p = rw (field_here, e, eq-eqb n 0 p)
 
-  pub size_unread : natural_of size_most (slice at end t) ≡ none → measure.No ≡ measure_of t (as_whole (read_size (drop at t)))
+  pub size_unread : natural_of size_most (slice at end t) ≡ none → None ≡ measure_of t (as_whole (read_size (drop at t)))
   unfolding read_size and_then
   size_unread e = rw (field_here, e)
 
@@ -94,11 +94,11 @@ module _ (t : List ℕ) (at end : ℕ) (ends : end ≡ field_end t at) (h : at �
 module _ (t : List ℕ) (at end most : ℕ) (l : end ≤ length t) where
   pub minus_whole : at < end → get_or t at 0 ≡ 45 → whole_of most (slice at end t) ≡ negated (natural_of most (slice (at + 1) end t))
   unfolding whole_of
-  minus_whole h e = rw (at_place t at end 0 h l, eq-eqb _ 45 e)
+  minus_whole h e = rw (at_place t at end most l h, eq-eqb _ 45 e)
 
   pub plain_whole : at < end → (get_or t at 0 ≡ 45 → ⊥) → whole_of most (slice at end t) ≡ positive (natural_of most (slice at end t))
   unfolding whole_of
-  plain_whole h e = rw (at_place t at end 0 h l, ne_eqb _ 45 e)
+  plain_whole h e = rw (at_place t at end most l h, ne_eqb _ 45 e)
 
   pub no_whole : end ≡ at → whole_of most (slice at end t) ≡ positive (natural_of most (slice at end t))
   unfolding whole_of

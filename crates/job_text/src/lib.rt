@@ -5,4 +5,4 @@ mod jobs;
 mod lines;
 mod loops;
 
-pub use jobs::{JobRead, read_job};
+pub use jobs::{JobRead, TextError, read_job};

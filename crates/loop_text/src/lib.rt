@@ -1,57 +1,88 @@
 // The text of a job in, the `s` lines of its sampled loops out: what the program `loops` does between its reading and its writing.
 #![tactic(auto)]
 
-ghost use Rattle.std.specs.Prelude.{◌≤◌, length};
+ghost use Rattle.std.specs.Prelude.{◌+◌, ◌≤◌, length, take};
 ghost use Rattle.geometry.specs.Domain.{sum_of};
 ghost use Rattle.state.specs.Limits.{front_limit, front_node_limit};
 ghost use Rattle.state.specs.State.{cut};
 ghost use Rattle.state.specs.Call.{lent};
 ghost use Rattle.input.specs.Job as inputs;
-ghost use Rattle.input.specs.Defaults as options;
 ghost use Rattle.sampling.specs.Sample.{sample_call};
 ghost use Rattle.text.specs.Putting.{Put};
+ghost use Rattle.text.specs.Writing.{Same, Wrote};
 ghost use Rattle.answer_text.specs.Fits.{text_limit};
 ghost use Rattle.tile_text.specs.TileList.{loops_text};
 ghost use Rattle.loop_text.specs.SampledText.{loop_lines, sampled_text};
 
 use answer_text::{put_refused, put_rings};
-use job_text::{JobRead, read_job};
-use state::Answer;
+use input::Job;
+use job_text::read_job;
+use state::Lent;
+use text::Writer;
 
 // A line for each loop.
-fn put_lines(out: &mut [u8], nodes: &[u16], lengths: &[u16]) -> usize
-    requires { (text_limit ≤ length out.old) × (length lengths.now ≤ front_limit) × (sum_of lengths.now ≤ front_node_limit) × (sum_of lengths.now ≤ length nodes.now) }
-    ensures put { Put out.old 0 (loops_text (cut lengths.now nodes.now)) out.new result }
-    ensures upper_bound { result ≤ text_limit }
+fn put_lines(w: &mut Writer, nodes: &[u16], lengths: &[u16])
+    requires { (w.old.at + text_limit ≤ length w.old.out.now) × (length lengths.now ≤ front_limit) × (sum_of lengths.now ≤ front_node_limit) × (sum_of lengths.now ≤ length nodes.now) }
+    ensures put { Wrote w.old (loops_text (cut lengths.now nodes.now)) w.new }
+    ensures upper_bound { w.new.at ≤ w.old.at + text_limit }
+    ensures same { Same w.old w.new }
 {
-    put_rings(out, 0, b's', nodes, lengths)
+    put_rings(w, b's', nodes, lengths);
 }
 
-// The sampled loops of a job with the default options.
-fn put_sampled(out: &mut [u8], coords: &[f64], loop_lengths: &[u16], h: f64) -> usize
-    requires { text_limit ≤ length out.old }
-    ensures put { Put out.old 0 (loop_lines (sample_call (inputs.job coords.now loop_lengths.now h options.defaults) lent)) out.new result }
-    ensures upper_bound { result ≤ text_limit }
+// The first `fronts` fronts of lent buffers.
+fn put_fronts(w: &mut Writer, lent: &Lent, fronts: usize)
+    requires room { w.old.at + text_limit ≤ length w.old.out.now }
+    requires few { (fronts ≤ front_limit) × (fronts ≤ length lent.now.front_lengths.now) × (sum_of (take fronts lent.now.front_lengths.now) ≤ front_node_limit) × (sum_of (take fronts lent.now.front_lengths.now) ≤ length lent.now.front_nodes.now) }
+    ensures put { Wrote w.old (loops_text (cut (take fronts lent.now.front_lengths.now) lent.now.front_nodes.now)) w.new }
+    ensures upper_bound { w.new.at ≤ w.old.at + text_limit }
+    ensures same { Same w.old w.new }
+{
+    put_lines(w, lent.front_nodes, &lent.front_lengths[..fronts]);
+}
+
+// The sampled loops of a job.
+fn put_sampled(w: &mut Writer, job: &Job)
+    requires { w.old.at + text_limit ≤ length w.old.out.now }
+    ensures put { Wrote w.old (loop_lines (sample_call (inputs.job_of job.now) lent)) w.new }
+    ensures upper_bound { w.new.at ≤ w.old.at + text_limit }
+    ensures same { Same w.old w.new }
 {
     let mut points = [0.0f64; 8192];
     let mut quads = [0u16; 16384];
     let mut front_nodes = [0u16; 2048];
     let mut front_lengths = [0u16; 16];
-    match sampling::sample(
-        coords,
-        loop_lengths,
-        h,
-        input::defaults(),
-        &mut points,
-        &mut quads,
-        &mut front_nodes,
-        &mut front_lengths,
-    ) {
-        Answer::Done(counts) => {
-            let loops = counts.fronts;
-            put_lines(out, &front_nodes, &front_lengths[..loops])
+    let mut lent = Lent {
+        points: &mut points,
+        quads: &mut quads,
+        front_nodes: &mut front_nodes,
+        front_lengths: &mut front_lengths,
+    };
+    match sampling::sample(job, &mut lent) {
+        Ok(counts) => put_fronts(w, &lent, counts.fronts),
+        Err(refusal) => put_refused(w, refusal.number()),
+    }
+}
+
+fn put_text(w: &mut Writer, input: &[u8])
+    requires { w.old.at + text_limit ≤ length w.old.out.now }
+    ensures put { Wrote w.old (sampled_text input.now) w.new }
+    ensures upper_bound { w.new.at ≤ w.old.at + text_limit }
+    ensures same { Same w.old w.new }
+{
+    let mut coords = [0.0f64; 4096];
+    let mut loop_lengths = [0u16; 16];
+    match read_job(input, &mut coords, &mut loop_lengths) {
+        Ok(read) => {
+            let job = Job {
+                coords: &coords[..read.pairs * 2],
+                loop_lengths: &loop_lengths[..read.loops],
+                h: read.size,
+                options: input::defaults(),
+            };
+            put_sampled(w, &job);
         }
-        Answer::Refused(number) => put_refused(out, number),
+        Err(error) => put_refused(w, error.number()),
     }
 }
 
@@ -61,14 +92,7 @@ pub fn put_loops(out: &mut [u8], input: &[u8]) -> usize
     ensures put { Put out.old 0 (sampled_text input.now) out.new result }
     ensures upper_bound { result ≤ text_limit }
 {
-    let mut coords = [0.0f64; 4096];
-    let mut loop_lengths = [0u16; 16];
-    match read_job(input, &mut coords, &mut loop_lengths) {
-        JobRead::Unreadable => put_refused(out, 11),
-        JobRead::TooMany => put_refused(out, 1),
-        JobRead::Is(size, pairs, loops) => {
-            let floats = pairs * 2;
-            put_sampled(out, &coords[..floats], &loop_lengths[..loops], size)
-        }
-    }
+    let mut w = Writer { out, at: 0 };
+    put_text(&mut w, input);
+    w.at
 }

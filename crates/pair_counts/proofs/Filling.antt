@@ -6,7 +6,7 @@ use native.Mathlib.Numerals.{add-one}
 use native.Mathlib.Nat.{add-zero}
 use native.Mathlib.Omega.{arith}
 use lib.ListN.{length, get_or, set, take, drop, length-append, length-drop}
-use lib.Seq.{take-suc-set, take-length, drop-drop, length-take-le}
+use lib.Seq.{take-suc-set, drop-drop, length-take-le}
 use Rattle.geometry.specs.Domain.{sum_of}
 use Rattle.geometry.specs.Rings.{next}
 use Rattle.state.specs.State.{cut}
@@ -69,10 +69,6 @@ module _ (f : ℕ → ℕ → ℕ) (lengths nodes : List ℕ) where
   pub rings-start : (l : List ℕ) (at : ℕ) → take (at + 0) l ≡ take at l ++ ends_of_all f (cut (take 0 lengths) nodes)
   unfolding ends_of_all cut
   rings-start l at = rw (add-zero at) (sym (append-nil (take at l)))
-
-  pub rings_end : (l l₀ : List ℕ) (at i start : ℕ) → i ≡ length lengths → take (at + start) l ≡ take at l₀ ++ ends_of_all f (cut (take i lengths) nodes)
-      → take (at + start) l ≡ take at l₀ ++ ends_of_all f (cut lengths nodes)
-  rings_end l l₀ at i start e h = rw (e, take-length lengths) at h
 
 -- the ring that is cut out next, of n nodes, k of them from `start` on
 pub record Next (lengths nodes : List ℕ) (i start n k : ℕ) : Type 0 where

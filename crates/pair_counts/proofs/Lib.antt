@@ -1,3 +1,4 @@
+pub mod Ordered
 pub mod Every
 pub mod Twice
 pub mod Tallies

@@ -8,6 +8,7 @@ use borrow.Author.Tests.{ne_eqb}
 use lib.ListN.{length, get_or, set}
 use lib.Seq.{get_or-set_other}
 use Rattle.state.specs.Limits.{point_limit}
+use Rattle.pair_counts.specs.Sides.{side_limit}
 use Rattle.pair_counts.specs.Chains.{along, chain, Walk}
 use Rattle.pair_counts.specs.Tally.{times}
 use Rattle.pair_counts.proofs.Tallies.{times_none, times_here, times_other}
@@ -92,29 +93,35 @@ module _ (behind highs : List ℕ) where
   unfolding chain
   chain-set at i x f l = along-set at at i x f l
 
--- ---- one turn along a chain: `at` is not 0, `node` is the higher node there, and `place` the place behind it
+-- ---- one turn along a chain
 
-module _ (highs behind : List ℕ) (at node place : ℕ) (walk : Walk highs behind at) (more : at ≡ 0 → ⊥) (node-is : node ≡ get_or highs (at - 1) 0) (place_is : place ≡ get_or behind (at - 1) 0) where
-  pub turn_small : node < point_limit
-  turn_small = let w = walk.within in omega (arith, walk.nodes (at - 1) (omega arith))
+pub shorter : {xs ys : List ℕ} {x : ℕ} → xs ≡ x ∷ ys → length ys < length xs
+shorter e = rw e (omega arith)
 
-  pub turn_falls : place < at
-  turn_falls = let w = walk.within in omega (arith, walk.falls (at - 1) (omega arith))
+pub chain_done : (highs behind : List ℕ) (at : ℕ) → (1 ≤ at → ⊥) → chain behind highs at ≡ []
+chain_done highs behind at none =
+    let z : at ≡ 0 = omega (arith, none) in
+    rw z (chain_end behind highs)
 
-  pub turn_on : Walk highs behind place
-  turn_on = let f = turn_falls in let w = walk.within in record { within = omega arith; few = walk.few; long = walk.long; falls = walk.falls; nodes = walk.nodes }
-
-  pub turn-chain : chain behind highs at ≡ node ∷ chain behind highs place
-  turn-chain = rw (node-is, place_is) (go at walk more)
+module _ (highs behind : List ℕ) (at : ℕ) (walk : Walk highs behind at) where
+  pub turn-chain : (i : ℕ) → i ≡ at - 1 → 1 ≤ at → chain behind highs at ≡ get_or highs i 0 ∷ chain behind highs (get_or behind i 0)
+  turn-chain i e more = rw e (go at walk more)
     where
-      go : (n : ℕ) → Walk highs behind n → (n ≡ 0 → ⊥) → chain behind highs n ≡ get_or highs (n - 1) 0 ∷ chain behind highs (get_or behind (n - 1) 0)
-      go zero w e = absurd (e refl)
+      go : (n : ℕ) → Walk highs behind n → 1 ≤ n → chain behind highs n ≡ get_or highs (n - 1) 0 ∷ chain behind highs (get_or behind (n - 1) 0)
+      go zero w e = absurd (omega arith)
       go (suc p) w e =
           let z : suc p - 1 ≡ p = omega arith in
           let l = w.within in
           rw z (chain_more behind highs p (λ q h. w.falls q (omega arith)))
 
--- a node of the chain is below the limit
-pub chain_small : (highs behind : List ℕ) (at : ℕ) → Walk highs behind at → (v : ℕ) → 0 < times v (chain behind highs at) → v < point_limit
-unfolding chain
-chain_small highs behind at w v h = along_small behind highs point_limit (length highs) v at at w.falls w.nodes w.within h
+  -- a node of the chain is below the limit
+  pub chain_small : (v : ℕ) → 0 < times v (chain behind highs at) → v < point_limit
+  unfolding chain
+  chain_small v h = along_small behind highs point_limit (length highs) v at at walk.falls walk.nodes walk.within h
+
+  pub first_small : {node : ℕ} {left : List ℕ} → chain behind highs at ≡ node ∷ left → node < point_limit
+  first_small {node} {left} e = chain_small node (rw e (omega (arith, times_here node node left refl)))
+
+  -- no node stands there more often than there are sides
+  pub chain_few : (v : ℕ) → times v (chain behind highs at) ≤ side_limit
+  chain_few v = let f = walk.few in let w = walk.within in omega (arith, chain-times behind highs v at)

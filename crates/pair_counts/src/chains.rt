@@ -6,6 +6,7 @@ ghost use Rattle.pair_counts.specs.Twice.{every};
 ghost use Rattle.pair_counts.specs.Chains.{Linked, Walk, chain};
 ghost use Rattle.pair_counts.specs.Tally.{each_twice, sides_twice};
 
+use crate::chain::Chain;
 use crate::tally::chain_twice;
 use geometry::wide;
 use state::narrow;
@@ -17,12 +18,10 @@ fn link(lows: &[u16], first: &mut [u16], behind: &mut [u16])
     requires by_index { (i : ℕ) → i < length lows.now → get_or lows.now i 0 < point_limit }
     ensures { Linked lows.now behind.new first.new (length lows.now) }
 {
-    let mut i = 0usize;
-    while i < lows.len() {
-        let node = wide(lows[i]);
+    for (i, low) in lows.iter().enumerate() {
+        let node = wide(*low);
         behind[i] = first[node];
-        i += 1;
-        first[node] = narrow(i);
+        first[node] = narrow(i + 1);
     }
 }
 
@@ -32,12 +31,15 @@ fn chains_twice(highs: &[u16], behind: &[u16], first: &[u16], tally: &mut [u16])
     requires by_index { (u : ℕ) → u < point_limit → Walk highs.now behind.now (get_or first.now u 0) }
     ensures { result ≡ every (λ u. each_twice (chain behind.now highs.now (get_or first.now u 0))) point_limit }
 {
-    let mut node = 0usize;
-    while node < 4096 {
-        if !chain_twice(highs, behind, wide(first[node]), tally) {
+    for place in first {
+        let chain = Chain {
+            highs,
+            behind,
+            place: *place,
+        };
+        if !chain_twice(chain, tally) {
             return false;
         }
-        node += 1;
     }
     true
 }

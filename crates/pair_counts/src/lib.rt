@@ -10,6 +10,7 @@ ghost use Rattle.state.specs.Limits.{point_limit};
 ghost use Rattle.pair_counts.specs.Sides.{side_limit};
 ghost use Rattle.pair_counts.specs.Twice.{all_twice};
 
+mod chain;
 mod chains;
 mod sides;
 mod tally;

@@ -9,13 +9,13 @@ use geometry::{next_of, wide};
 fn lower(a: u16, b: u16) -> u16
     ensures { result ≡ specs.lower a b }
 {
-    if b < a { b } else { a }
+    a.min(b)
 }
 
 fn higher(a: u16, b: u16) -> u16
     ensures { result ≡ specs.higher a b }
 {
-    if b < a { a } else { b }
+    a.max(b)
 }
 
 // The sides of a ring, from place `at` on.
@@ -25,11 +25,10 @@ fn put_ring(lows: &mut [u16], highs: &mut [u16], at: usize, ring: &[u16])
     ensures highs_after { take (at + length ring.now) highs.new ≡ take at highs.old ++ specs.ends specs.higher ring.now }
 {
     let n = ring.len();
-    for i in 0..n {
-        let a = ring[i];
+    for (i, a) in ring.iter().enumerate() {
         let b = ring[next_of(n, i)];
-        lows[at + i] = lower(a, b);
-        highs[at + i] = higher(a, b);
+        lows[at + i] = lower(*a, b);
+        highs[at + i] = higher(*a, b);
     }
 }
 
@@ -48,12 +47,10 @@ pub fn put_rings(
     ensures highs_after { take result highs.new ≡ take at highs.old ++ specs.ends_of_all specs.higher (cut lengths.now nodes.now) }
 {
     let mut start = 0usize;
-    let mut i = 0usize;
-    while i < lengths.len() {
-        let end = start + wide(lengths[i]);
+    for n in lengths {
+        let end = start + wide(*n);
         put_ring(lows, highs, at + start, &nodes[start..end]);
         start = end;
-        i += 1;
     }
     at + start
 }

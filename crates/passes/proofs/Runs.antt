@@ -7,9 +7,7 @@ use native.Mathlib.Omega.{arith}
 use borrow.Author.Tests.{eq-eqb, ne_eqb}
 use lib.Dec.{eqb}
 use Rattle.state.specs.declared.Counts.{Counts}
-use Rattle.state.specs.declared.Answer.{Answer}
-use Rattle.state.specs.declared.Answer.TheVariants.{Done, Refused}
-use Rattle.state.specs.State.{State, Held, written, reading}
+use Rattle.state.specs.State.{State, Held, reading}
 use Rattle.state.specs.Outcome.{Outcome, refused, gives}
 use Rattle.state.specs.Call.{held}
 use Rattle.state.specs.Sound.{Sound, Clean}
@@ -130,12 +128,12 @@ module _ (j : Job) (most : ℕ) (b₀ : Held) where
       refused_too : (n : ℕ) → refused n ≡ written_of (one_pass j (reading b)) → refused n ≡ written_of (some_passes j most (reading b₀))
       refused_too n e = sym (ap written_of (one_more h ∙ first_pass j (most - (k + 1)) (reading b) (refused n) (refused_is n (one_pass j (reading b)) e)))
 
-      module _ (a : Answer) (l : Held) (e : passed a l ≡ written_of (one_pass j (reading b))) where
+      module _ (a : Outcome Counts) (l : Held) (e : passed a l ≡ written_of (one_pass j (reading b))) where
         -- a refused pass refuses all, whatever is held then
-        pub ran_refused : (n : ℕ) → a ≡ Refused n → (l' : Held) → passed a l' ≡ written_of (some_passes j most (reading b₀))
+        pub ran_refused : (n : ℕ) → a ≡ refused n → (l' : Held) → passed a l' ≡ written_of (some_passes j most (reading b₀))
         ran_refused n q l' = ap (λ x. passed x l') q ∙ refused_too n (sym (ap (λ x. passed x l) q) ∙ e)
 
-        module _ (c : Counts) (q : a ≡ Done c) where
+        module _ (c : Counts) (q : a ≡ gives c) where
           abbrev b' : Held
           b' = held l.points l.quads l.front_nodes l.front_lengths c
 
@@ -184,9 +182,9 @@ fit_passes j (suc n) s t fit e = go (one_pass j s) refl (λ u. fit_passes j n u 
 
 module _ (j : Job) (most : ℕ) (b : Held) (sound : Sound b) (l : Held) where
   -- the counts are c
-  pub passes_done : (c : Counts) → passed (Done c) l ≡ written_of (some_passes j most (reading b))
+  pub passes_done : (c : Counts) → passed (gives c) l ≡ written_of (some_passes j most (reading b))
       → let b' = held l.points l.quads l.front_nodes l.front_lengths c in Sound b' × Clean b' × (some_passes j most (reading b) ≡ gives (reading b'))
   passes_done c e = done_is (some_passes j most (reading b)) (λ t f. fit_passes j most (reading b) t (fit_read b sound) f) e
 
-  pub passes_refused : (n : ℕ) → passed (Refused n) l ≡ written_of (some_passes j most (reading b)) → some_passes j most (reading b) ≡ refused n
+  pub passes_refused : (n : ℕ) → passed (refused n) l ≡ written_of (some_passes j most (reading b)) → some_passes j most (reading b) ≡ refused n
   passes_refused n e = refused_is n (some_passes j most (reading b)) e

@@ -1,12 +1,12 @@
 // The order of a pass: the fronts by length, equal lengths in front order. The Rust's `sort_by`, for at most 16 fronts.
-ghost use Rattle.std.specs.Prelude.{◌≡◌, ℕ, ◌*◌, ◌+◌, ◌<◌, ◌≤◌, get_or, length, take};
+ghost use Rattle.std.specs.Prelude.{◌≡◌, ℕ, All, ◌*◌, ◌+◌, ◌<◌, ◌≤◌, get_or, length, take};
 ghost use Rattle.state.specs.Limits.{front_limit};
 ghost use Rattle.geometry.specs.Domain.{sum_of};
 ghost use Rattle.rules.specs.Passes.{inserted, ordered};
 ghost use Rattle.passes.specs.Order.{length_in, length_of, order_of, put_in};
 
-use geometry::front_length;
-use state::{front_at, nodes_of};
+use geometry::{front_length, wide};
+use state::nodes_of;
 
 // The length of each front, measured once.
 fn lengths_of(points: &[f64], front_nodes: &[u16], sizes: &[u16]) -> [f64; 16]
@@ -15,41 +15,34 @@ fn lengths_of(points: &[f64], front_nodes: &[u16], sizes: &[u16]) -> [f64; 16]
     ensures { (k : ℕ) → k < length sizes.now → length_in result k ≡ length_of points.now front_nodes.now sizes.now k }
 {
     let mut lengths = [0.0; 16];
-    for i in 0..sizes.len() {
-        let front = front_at(sizes, i);
-        let start = front.start;
-        let n = front.len;
-        lengths[i] = front_length(points, nodes_of(front_nodes, start, n));
+    let mut start = 0;
+    for (i, size) in sizes.iter().enumerate() {
+        let len = wide(*size);
+        lengths[i] = front_length(points, nodes_of(front_nodes, start, len));
+        start += len;
     }
     lengths
 }
 
 // Where front `i` goes among the fronts before it, which are in order: behind every one that is not longer.
 fn place_of(lengths: &[f64; 16], order: &[usize], i: usize) -> usize
-    requires { (i < front_limit) × (i < length order.now) × ((k : ℕ) → k < i → get_or order.now k 0 < front_limit) }
-    ensures { (result ≤ i) × (inserted (length_in lengths.now) i (take i order.now) ≡ take (i + 1) (put_in order.now result i)) }
+    requires { (i < front_limit) × (i < length order.now) × All (λ k. k < front_limit) (take i order.now) }
+    ensures { (result ≤ i) × (inserted (length_in lengths.now) i (take i order.now) ≡ put_in (take i order.now) result i) }
 {
     let own = lengths[i];
-    for k in 0..i {
-        let other = order[k];
-        if own < lengths[other] {
-            return k;
-        }
-    }
-    i
+    order[..i]
+        .iter()
+        .position(|other| own < lengths[*other])
+        .unwrap_or(i)
 }
 
 // Front `i` put at place `at` of the first `i` places; those from there on move up by one.
 fn put_in(order: &mut [usize], at: usize, i: usize)
     requires { (at ≤ i) × (i < length order.old) }
-    ensures { take (i + 1) order.new ≡ take (i + 1) (put_in order.old at i) }
+    ensures { take (i + 1) order.new ≡ put_in (take i order.old) at i }
 {
-    let mut carried = i;
-    for k in at..i + 1 {
-        let next = order[k];
-        order[k] = carried;
-        carried = next;
-    }
+    order.copy_within(at..i, at + 1);
+    order[at] = i;
 }
 
 // The first `n` fronts by length, each put behind every earlier one that is not longer.

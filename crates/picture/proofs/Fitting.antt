@@ -5,17 +5,15 @@ use native.Mathlib.Omega.{arith}
 use mathlib.Core.Bool.{false}
 use lib.Ieee.{Float, inf}
 use lib.ListN.{length, take}
-use lib.Seq.{length-take-le}
 use Rattle.geometry.specs.Domain.{sum_of}
 use Rattle.state.specs.Limits.{front_limit, front_node_limit, points_length, quad_limit}
-use Rattle.state.specs.declared.Counts.{Counts}
 use Rattle.state.specs.State.{Held, quads_of, cut, reading}
 use Rattle.state.specs.Sound.{Sound, sizes_of}
 use Rattle.state.proofs.Reading.{sound_counted, sizes_long, points_long_lem, length-quads_of}
 use Rattle.input.specs.Limit.{default_limit}
 use Rattle.rules.specs.Fan.{Box}
 use Rattle.shapes.specs.Shapes.{outline_text, loops_text, tiles_text, fronts_text, nodes_text, worst}
-use Rattle.shapes.proofs.Lengths.{total, joined_total, path_length, loops-length, tiles_length, fronts_length, nodes-length}
+use Rattle.shapes.proofs.Lengths.{joined_total, path_length, loops-length, tiles_length, fronts_length, nodes-length}
 use Rattle.frames.specs.Views.{view_text, size_text, head_text, middle_text, under_text, caption_text, closing}
 use Rattle.captions.specs.Captions.{done_caption, refused_caption}
 use Rattle.frames.proofs.Lengths.{frame_length, place_length, closing-length}

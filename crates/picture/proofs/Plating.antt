@@ -4,9 +4,8 @@ use mathlib.Core.List.{List}
 use Prim.Native.Nat.{ℕ, ◌*◌}
 use lib.Ieee.{Float}
 use lib.ListN.{take}
+use Rattle.state.specs.Outcome.{Outcome, refused, gives}
 use Rattle.state.specs.declared.Counts.{Counts}
-use Rattle.state.specs.declared.Answer.{Answer}
-use Rattle.state.specs.declared.Answer.TheVariants.{Done, Refused}
 use Rattle.state.specs.State.{quads_of, cut, no_counts, reading}
 use Rattle.state.specs.Call.{held, left}
 use Rattle.input.specs.Job.{Job, job}
@@ -19,12 +18,12 @@ use Rattle.picture.specs.Plates.{framed_text, paved_text, outline_box, plated, o
 
 -- ---- the outline's box and its margin
 
-module _ (b : Box) (m : Float) (coords : List Float) (loops : List ℕ) (h : Float) (e : b ≡ outline_box coords) (f : m ≡ margin b h) where
+module _ (b : Box) (m : Float) (j : Job) (e : b ≡ outline_box j.coords) (f : m ≡ margin b j.h) where
   pub plated_is : (p : List Float) (q n l : List ℕ) (c : Counts)
-      → paved_text b m coords loops (reading (held p q n l c)).points (reading (held p q n l c)).quads (reading (held p q n l c)).fronts c ≡ plated (job coords loops h defaults) c (held p q n l c)
+      → paved_text b m j.coords j.loops (reading (held p q n l c)).points (reading (held p q n l c)).quads (reading (held p q n l c)).fronts c ≡ plated j c (held p q n l c)
   plated_is p q n l c = rw (f, e)
 
-  pub outlined_is : (n : ℕ) → framed_text b m (outline_text coords loops) (refused_caption n) ≡ outlined (job coords loops h defaults) n
+  pub outlined_is : (n : ℕ) → framed_text b m (outline_text j.coords j.loops) (refused_caption n) ≡ outlined j n
   outlined_is n = rw (f, e)
 
 -- what is read from the buffers
@@ -35,11 +34,11 @@ read_is p q n l c = (refl, refl, refl)
 
 -- ---- an answer by its case
 
-module _ (j : Job) (a : Answer) (p : List Float) (q n l : List ℕ) where
-  pub done_picture : (c : Counts) → a ≡ Done c → plated j c (held p q n l c) ≡ answer_picture j (left a (held p q n l no_counts))
+module _ (j : Job) (a : Outcome Counts) (p : List Float) (q n l : List ℕ) where
+  pub done_picture : (c : Counts) → a ≡ gives c → plated j c (held p q n l c) ≡ answer_picture j (left a (held p q n l no_counts))
   unfolding answer_picture
   done_picture c e = rw e
 
-  pub refused_picture : (k : ℕ) → a ≡ Refused k → outlined j k ≡ answer_picture j (left a (held p q n l no_counts))
+  pub refused_picture : (k : ℕ) → a ≡ refused k → outlined j k ≡ answer_picture j (left a (held p q n l no_counts))
   unfolding answer_picture
   refused_picture k e = rw e

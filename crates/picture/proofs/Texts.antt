@@ -1,19 +1,18 @@
 -- What `read_job` answers, as `draw_text` goes on from it, and the buffer with zeros behind the picture.
-use mathlib.Core.Path.{◌≡◌, refl, sym, ◌∙◌, ap}
-use mathlib.Core.Bool.{true, false, cond}
-use mathlib.Core.List.{List, [], ◌∷◌, ◌++◌, map}
-use mathlib.Core.Option.{Option, none, some, Option-elim}
-use Prim.Native.Nat.{ℕ, ◌+◌, ◌-◌, ◌*◌, ◌<◌, ◌≤◌}
+use mathlib.Core.Path.{◌≡◌, refl, ◌∙◌}
+use mathlib.Core.Bool.{false}
+use mathlib.Core.List.{List, [], ◌∷◌, map}
+use mathlib.Core.Option.{some, Option-elim}
+use Prim.Native.Nat.{ℕ, ◌-◌, ◌*◌, ◌<◌, ◌≤◌}
 use native.Mathlib.Nat.{zero-add}
 use native.Mathlib.Omega.{arith}
-use lib.Dec.{eqb, ltb}
 use lib.Ieee.{Float}
 use lib.ListN.{length, take, replicate, length-take, length-append}
 use lib.Seq.{sets}
 use borrow.Author.Tests.{lt-ltb, le-ltb, eq-eqb, ne_eqb}
 use Rattle.geometry.specs.Domain.{sum_of}
 use Rattle.state.specs.Call.{lent}
-use Rattle.state.specs.State.{joined, padded}
+use Rattle.state.specs.State.{joined}
 use Rattle.input.specs.Job.{Job, job}
 use Rattle.input.specs.Defaults.{defaults}
 use Rattle.rules.specs.Calls.{job_call}
@@ -21,9 +20,11 @@ use Rattle.text.specs.Putting.{Put}
 use Rattle.text.proofs.Midst.{zeros-behind}
 use Rattle.job_text.specs.Drawing.{Place, Drawing, loops, job_of}
 use Rattle.job_text.specs.Reading.{read_job}
-use Rattle.job_text.specs.Answers.{too_many, JobReadIs}
+use Rattle.job_text.specs.Answers.{number_of, too_many, JobReadIs}
 use Rattle.job_text.specs.declared.jobs.JobRead.{JobRead}
-use Rattle.job_text.specs.declared.jobs.JobRead.TheVariants as job_read
+use Rattle.job_text.specs.declared.jobs.TextError.{TextError}
+use Rattle.job_text.specs.declared.jobs.TextError.TheVariants.{Unreadable, TooMany}
+use Rattle.std.specs.Prelude.{Ok, Err}
 use Rattle.job_text.proofs.Storing.{length-coordinates}
 use Rattle.job_text.proofs.Callers.{JobIs, job_is, too_many_is, unreadable_is}
 use Rattle.captions.specs.Captions.{words_text}
@@ -58,28 +59,25 @@ drawing_is : (t : List ℕ) (coords : List Float) (ns : List ℕ) (size : Float)
 unfolding draw_text Option-elim job_of
 drawing_is t coords ns size d i m h c l = rw (i, m, h, c, l)
 
-module _ (t : List ℕ) (c : List Float) (l : List ℕ) (r : JobRead) (is : JobReadIs t c l r) where
-  pub no_job : r ≡ job_read.Unreadable → words_text 11 ≡ draw_text t
+module _ (t : List ℕ) (c : List Float) (l : List ℕ) where
+  pub refused : (e : TextError) → JobReadIs t c l (Err e) → words_text (number_of e) ≡ draw_text t
   unfolding draw_text Option-elim
-  no_job e = let n = unreadable_is t c l (rw e at is) in rw n
+  refused Unreadable is = let n = unreadable_is t c l is in rw n
+  refused TooMany is = let m = too_many_is t c l is in rw (m.1, m.2)
 
-  pub many_job : r ≡ job_read.TooMany → words_text 1 ≡ draw_text t
-  unfolding draw_text Option-elim
-  many_job e = let m = too_many_is t c l (rw e at is) in rw (m.1, m.2)
+  module _ (j : JobRead) (is : JobReadIs t c l (Ok j)) where
+    pub found : JobIs t c l j
+    found = job_is t c l j is
 
-  module _ (size : Float) (pairs n : ℕ) (e : r ≡ job_read.Is size pairs n) where
-    pub found : JobIs t c l size pairs n
-    found = job_is t c l size pairs n (rw e at is)
+    pub job-drawn : job_picture (job (take (j.pairs * 2) c) (take j.loops l) j.size defaults) ≡ draw_text t
+    job-drawn = let f = found in drawing_is t (take (j.pairs * 2) c) (take j.loops l) j.size f.drawing f.is f.fits f.h f.coords f.lengths
 
-    pub job-drawn : job_picture (job (take (pairs * 2) c) (take n l) size defaults) ≡ draw_text t
-    job-drawn = let f = found in drawing_is t (take (pairs * 2) c) (take n l) size f.drawing f.is f.fits f.h f.coords f.lengths
-
-    pub job_few : Few (take (pairs * 2) c) (take n l)
+    pub job_few : Few (take (j.pairs * 2) c) (take j.loops l)
     job_few =
         let f = found in
         let few = f.few in
-        let a = length-take (pairs * 2) c in
-        let b = length-take n l in
+        let a = length-take (j.pairs * 2) c in
+        let b = length-take j.loops l in
         record { coords = omega arith; loops = omega arith; points = rw (f.coords, f.lengths) (few_points f.drawing) }
 
 -- ---- the buffer

@@ -1,6 +1,6 @@
 -- The picture of a job's text. Definitions only.
 use Rattle.std.specs.Prelude.{ℕ, cond, List, eqb, ltb}
-use Rattle.std.proofs.Math.Option.{Option, Option-elim}
+use Rattle.std.proofs.Math.Option.{Option-elim}
 use Rattle.std.proofs.Math.ListN as lists
 use Rattle.state.specs.Call.{lent}
 use Rattle.state.specs.State.{padded}

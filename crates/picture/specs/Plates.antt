@@ -3,9 +3,8 @@ use Rattle.std.specs.Prelude.{ℕ, ◌-◌, ◌*◌, ◌/◌, ◌≤◌, false, 
 use Rattle.std.specs.Float.{inf}
 use Rattle.geometry.specs.Domain.{sum_of}
 use Rattle.geometry.specs.Rings.{ring_of}
+use Rattle.state.specs.Outcome.{Outcome, refused, gives}
 use Rattle.state.specs.declared.Counts.{Counts}
-use Rattle.state.specs.declared.Answer.{Answer}
-use Rattle.state.specs.declared.Answer.TheVariants.{Done, Refused}
 use Rattle.state.specs.State.{Quad, Held, joined, reading}
 use Rattle.state.specs.Call.{Left}
 use Rattle.input.specs.Job.{Job, loop_limit, pair_limit}
@@ -45,9 +44,9 @@ plated j c b = paved_text (outline_box j.coords) (plate_margin j) j.coords j.loo
 abbrev pub outlined : Job → ℕ → List ℕ
 outlined j n = framed_text (outline_box j.coords) (plate_margin j) (outline_text j.coords j.loops) (refused_caption n)
 
-abbrev pub drawn : Job → Answer → Held → List ℕ
-drawn j (Done c) b = plated j c b
-drawn j (Refused n) b = outlined j n
+abbrev pub drawn : Job → Outcome Counts → Held → List ℕ
+drawn j (gives c) b = plated j c b
+drawn j (refused n) b = outlined j n
 
 unfoldable pub answer_picture : Job → Left → List ℕ
 answer_picture j x = drawn j x.answer x.held

@@ -1,67 +1,63 @@
 // From a job's text to its picture: what the program `draw` does between its reading and its writing.
-ghost use Rattle.std.specs.Prelude.{◌≡◌, ◌≤◌, length};
-ghost use Rattle.input.specs.Job as inputs;
-ghost use Rattle.input.specs.Defaults as options;
+ghost use Rattle.std.specs.Prelude.{◌≡◌, ◌+◌, ◌≤◌, length};
+ghost use Rattle.input.specs.Job.{job_of};
 ghost use Rattle.text.specs.Putting.{Put};
+ghost use Rattle.text.specs.Writing.{Same, Wrote};
 ghost use Rattle.picture.specs.Plates.{Few};
 ghost use Rattle.picture.specs.Picture.{draw_call, draw_text, drawn_in, job_picture, picture_room};
 
 use crate::plates::put_answer;
 use captions::put_words;
-use job_text::{JobRead, read_job};
-use text::put_zeros;
+use input::Job;
+use job_text::read_job;
+use state::Lent;
+use text::{Writer, put_zeros};
 
-// The picture of a job with the default options.
-fn put_job(out: &mut [u8], coords: &[f64], loops: &[u16], h: f64) -> usize
-    requires picture_room_in_bounds { picture_room ≤ length out.old }
-    requires few { Few coords.now loops.now }
-    ensures put { Put out.old 0 (job_picture (inputs.job coords.now loops.now h options.defaults)) out.new result }
-    ensures upper_bound { result ≤ picture_room }
+// The picture of a job.
+fn put_job(w: &mut Writer, job: &Job)
+    requires picture_room_in_bounds { w.old.at + picture_room ≤ length w.old.out.now }
+    requires few { Few job.now.coords.now job.now.loop_lengths.now }
+    ensures put { Wrote w.old (job_picture (job_of job.now)) w.new }
+    ensures upper_bound { w.new.at ≤ w.old.at + picture_room }
+    ensures same { Same w.old w.new }
 {
-    if coords.len() == 0 {
-        return put_words(out, 4);
+    if job.coords.len() == 0 {
+        put_words(w, 4);
+        return;
     }
     let mut points = [0.0f64; 8192];
     let mut quads = [0u16; 16384];
     let mut front_nodes = [0u16; 2048];
     let mut front_lengths = [0u16; 16];
-    let answer = job::job(
-        coords,
-        loops,
-        h,
-        input::defaults(),
-        &mut points,
-        &mut quads,
-        &mut front_nodes,
-        &mut front_lengths,
-    );
-    put_answer(
-        out,
-        coords,
-        loops,
-        h,
-        answer,
-        &points,
-        &quads,
-        &front_nodes,
-        &front_lengths,
-    )
+    let mut lent = Lent {
+        points: &mut points,
+        quads: &mut quads,
+        front_nodes: &mut front_nodes,
+        front_lengths: &mut front_lengths,
+    };
+    let answer = job::job(job, &mut lent);
+    put_answer(w, job, answer, &lent);
 }
 
-fn put_drawing(out: &mut [u8], input: &[u8]) -> usize
-    requires { picture_room ≤ length out.old }
-    ensures put { Put out.old 0 (draw_text input.now) out.new result }
-    ensures upper_bound { result ≤ picture_room }
+fn put_drawing(w: &mut Writer, input: &[u8])
+    requires { w.old.at + picture_room ≤ length w.old.out.now }
+    ensures put { Wrote w.old (draw_text input.now) w.new }
+    ensures upper_bound { w.new.at ≤ w.old.at + picture_room }
+    ensures same { Same w.old w.new }
 {
     let mut coords = [0.0f64; 4096];
     let mut loop_lengths = [0u16; 16];
     match read_job(input, &mut coords, &mut loop_lengths) {
-        JobRead::Unreadable => put_words(out, 11),
-        JobRead::TooMany => put_words(out, 1),
-        JobRead::Is(size, pairs, loops) => {
-            let floats = pairs * 2;
-            put_job(out, &coords[..floats], &loop_lengths[..loops], size)
+        Ok(read) => {
+            let job = Job {
+                coords: &coords[..read.pairs * 2],
+                loop_lengths: &loop_lengths[..read.loops],
+                h: read.size,
+                options: input::defaults(),
+            };
+            put_job(w, &job);
         }
+        Err(error) => put_words(w, error.number()),
     }
 }
 
@@ -73,7 +69,9 @@ pub fn draw_text(input: &[u8], out: &mut [u8]) -> usize
     if out.len() < 1638400 {
         return 0;
     }
-    let end = put_drawing(out, input);
-    put_zeros(out, end);
+    let mut w = Writer { out, at: 0 };
+    put_drawing(&mut w, input);
+    let end = w.at;
+    put_zeros(w.out, end);
     end
 }

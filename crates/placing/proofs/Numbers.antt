@@ -12,7 +12,9 @@ use Rattle.state.specs.Limits.{front_node_limit}
 use Rattle.state.specs.Outcome.{Outcome, refused, gives, first_true, test, outcome}
 use Rattle.planning.specs.Ring.{loop_ring}
 use Rattle.planning.specs.Plan.{inner, inner_sum, longest, total, planned, parts}
-use Rattle.placing.specs.declared.one_loop.Made.{Made}
+use Rattle.std.specs.Prelude.{Result}
+use Rattle.state.specs.declared.refusal.Refusal.{Refusal}
+use Rattle.placing.specs.declared.one_loop.LoopNodes.{LoopNodes}
 use Rattle.placing.specs.Loop.{sample_loop}
 use Rattle.placing.specs.Placing.{MadeIs, placed_outcome}
 
@@ -83,6 +85,6 @@ module _ (h corner_margin : Float) (before : ℕ) (ccw : Bool) (given r : Ring) 
   unfolding sample_loop first_true
   not_seven g = rw (e, le-ltb r.size 3 g)
 
-  pub of_loop : (at : ℕ) (entry exit : List Float) (made : Made) → 3 ≤ r.size → MadeIs h corner_margin r before at entry exit (placed_outcome h corner_margin before r) made
+  pub of_loop : (at : ℕ) (entry exit : List Float) (made : Result LoopNodes Refusal) → 3 ≤ r.size → MadeIs h corner_margin r before at entry exit (placed_outcome h corner_margin before r) made
       → MadeIs h corner_margin (loop_ring ccw given) before at entry exit (sample_loop h corner_margin before ccw given) made
   of_loop at entry exit made g w = rw (not_seven g, e) w

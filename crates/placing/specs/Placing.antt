@@ -1,5 +1,5 @@
 -- The inner points of a side by the values that they are computed from, and what is left of a sampled loop. Definitions only.
-use Rattle.std.specs.Prelude.{ℕ, zero, suc, ◌+◌, ◌*◌, ◌/◌, ◌%◌, ◌≤◌, ◌≡◌, List, [], ◌∷◌, ◌++◌, length, eqb, ltb, pos, Float}
+use Rattle.std.specs.Prelude.{Result, Ok, Err, ℕ, zero, suc, ◌+◌, ◌*◌, ◌/◌, ◌%◌, ◌≤◌, ◌≡◌, List, [], ◌∷◌, ◌++◌, length, eqb, ltb, pos, Float}
 use Rattle.std.proofs.lemmas.List.Edits.{sets}
 use Rattle.std.specs.Float.{binary64}
 use Rattle.std.specs.Float.Ieee.{of_int}
@@ -10,8 +10,9 @@ use Rattle.geometry.specs.Rings.{Ring}
 use Rattle.state.specs.Limits.{front_node_limit}
 use Rattle.state.specs.Outcome.{Outcome, refused, gives, first_true, test, outcome}
 use Rattle.planning.specs.Plan.{planned}
-use Rattle.placing.specs.declared.one_loop.Made.{Made}
-use Rattle.placing.specs.declared.one_loop.Made.TheVariants.{Nodes, Refused}
+use Rattle.state.specs.declared.refusal.Refusal.{Refusal}
+use Rattle.state.specs.Refusals.{number}
+use Rattle.placing.specs.declared.one_loop.LoopNodes.{LoopNodes}
 use Rattle.placing.specs.Placed.{placed}
 
 -- a side from a to b with its length, its margin at a and its span
@@ -47,7 +48,7 @@ pub record Written (h corner_margin : Float) (r : Ring) (before at p k : ℕ) (e
   pub fewer : k ≤ p
   pub points : exit ≡ sets entry (at * 2) (placed h corner_margin r r.size)
 
--- document 01's number and values for each case of `Made`, against the outcome of a definition: the nodes planned and placed, with what is written, or the number of the refusal
-abbrev pub MadeIs : Float → Float → Ring → ℕ → ℕ → List Float → List Float → Outcome (List Float) → Made → Type 0
-MadeIs h corner_margin r before at entry exit answer (Nodes p k) = (answer ≡ gives (placed h corner_margin r r.size)) × Written h corner_margin r before at p k entry exit
-MadeIs h corner_margin r before at entry exit answer (Refused n) = answer ≡ refused n
+-- document 01's number and values for each case of a sampled loop's result, against the outcome of a definition: the nodes planned and placed, with what is written, or the number of the refusal
+abbrev pub MadeIs : Float → Float → Ring → ℕ → ℕ → List Float → List Float → Outcome (List Float) → Result LoopNodes Refusal → Type 0
+MadeIs h corner_margin r before at entry exit answer (Ok m) = (answer ≡ gives (placed h corner_margin r r.size)) × Written h corner_margin r before at m.planned m.placed entry exit
+MadeIs h corner_margin r before at entry exit answer (Err e) = answer ≡ refused (number e)

@@ -4,4 +4,4 @@
 mod one_loop;
 mod place;
 
-pub use one_loop::{Made, sample_loop};
+pub use one_loop::{LoopNodes, sample_loop};

@@ -10,12 +10,13 @@ ghost use Rattle.placing.specs.Placing.{MadeIs, placed_outcome};
 
 use crate::place::place;
 use planning::{all_apart, keep_points, kept_ring, plan_sides};
+use state::Refusal;
 
-// One loop sampled: the nodes planned and the nodes placed, or the number of its refusal.
+// How many nodes of a loop were planned, and how many placed.
 #[derive(Clone, Copy)]
-pub enum Made {
-    Nodes { planned: usize, placed: usize },
-    Refused(u32),
+pub struct LoopNodes {
+    pub planned: usize,
+    pub placed: usize,
 }
 
 // The side that gets one more inner point; `n`, which is no side, if the nodes are even in number.
@@ -40,7 +41,7 @@ fn plan_and_place(
     spans: &mut [f64],
     points: &mut [f64],
     at: usize,
-) -> Made
+) -> Result<LoopNodes, Refusal>
     requires n_bound { (n * 2 ≤ lists.length pts.now) × (0 < n) × (n ≤ front_node_limit) × (n ≤ lists.length lengths.old) × (n ≤ lists.length spans.old) }
     requires at_le_before { (at ≤ before) × (before ≤ front_node_limit) × (front_node_limit * 2 ≤ lists.length points.old) }
     ensures { MadeIs h corner_margin (turned_if back (ring_of pts.now n)) before at points.old points.new
@@ -51,7 +52,7 @@ fn plan_and_place(
     let odd = total % 2;
     let planned = total + odd;
     if 2048 < before + planned {
-        return Made::Refused(10);
+        return Err(Refusal::ManyNodes);
     }
     let longer = longer_side(odd, p.longest, n);
     let placed = place(
@@ -67,12 +68,12 @@ fn plan_and_place(
         at,
     );
     if placed < 4 {
-        return Made::Refused(8);
+        return Err(Refusal::FewNodes);
     }
     if placed % 2 == 1 {
-        return Made::Refused(9);
+        return Err(Refusal::OddNodes);
     }
-    Made::Nodes { planned, placed }
+    Ok(LoopNodes { planned, placed })
 }
 
 // Samples any loop of which these points are kept and writes its nodes from place `at` on.
@@ -87,7 +88,7 @@ fn sample_kept(
     spans: &mut [f64],
     points: &mut [f64],
     at: usize,
-) -> Made
+) -> Result<LoopNodes, Refusal>
     requires kept_value { (kept * 2 ≡ lists.length pts.now) × (kept ≤ front_node_limit) × (kept ≤ lists.length lengths.old) × (kept ≤ lists.length spans.old) }
     requires at_le_before { (at ≤ before) × (before ≤ front_node_limit) × (front_node_limit * 2 ≤ lists.length points.old) }
     ensures { (given : Ring) → pts.now ≡ rings.kept given given.size
@@ -96,7 +97,7 @@ fn sample_kept(
     let ring = kept_ring(pts, kept, ccw);
     let size = ring.size;
     if size < 3 {
-        return Made::Refused(7);
+        return Err(Refusal::FewPoints);
     }
     let back = ring.back;
     plan_and_place(
@@ -127,7 +128,7 @@ pub fn sample_loop(
     spans: &mut [f64],
     points: &mut [f64],
     at: usize,
-) -> Made
+) -> Result<LoopNodes, Refusal>
     requires n_bound { (n * 2 ≤ lists.length coords.now) × (n ≤ front_node_limit) × (n * 2 ≤ lists.length buffer.old) × (n ≤ lists.length lengths.old) × (n ≤ lists.length spans.old) }
     requires at_le_before { (at ≤ before) × (before ≤ front_node_limit) × (front_node_limit * 2 ≤ lists.length points.old) }
     ensures { MadeIs h corner_margin (rings.loop_ring ccw (ring_of coords.now n)) before at points.old points.new

@@ -7,18 +7,18 @@ ghost use Rattle.std.proofs.lemmas.List.Edits.{sets};
 ghost use Rattle.geometry.specs.Rings.{ring_of};
 ghost use Rattle.state.specs.Limits.{front_node_limit};
 ghost use Rattle.planning.specs.Plan as plans;
-ghost use Rattle.planning.specs.Backwards.{turned_if};
+ghost use Rattle.planning.specs.Backwards.{read_ring, turned_if};
 ghost use Rattle.placing.specs.Placed as laid;
 ghost use Rattle.placing.specs.Placing.{between, betweens};
 
 use geometry::Point;
-use planning::{inner_of, margin_at, ring_point};
+use planning::{LoopRing, inner_of, margin_at};
 
 fn whole(n: usize) -> f64
     requires { n < 4096 }
     ensures { result ≡ of_int binary64 (pos n) }
 {
-    (n as u32) as f64
+    f64::from(n as u32)
 }
 
 // The `j`th of `k` inner points of the side from `a` to `b`.
@@ -47,11 +47,9 @@ fn place_inner(
     requires { (k < 4096) × ((at + k) * 2 ≤ lists.length points.old) }
     ensures { points.new ≡ sets points.old (at * 2) (betweens a b length margin span k k) }
 {
-    let mut j = 0usize;
-    while j < k {
+    for j in 0..k {
         let p = inner_point(a, b, length, margin, span, k, j);
         geometry::put_point(points, at + j, p.x, p.y);
-        j += 1;
     }
 }
 
@@ -60,18 +58,13 @@ fn parts_of(inner: usize, i: usize, longer: usize) -> usize
     requires { inner < 4096 }
     ensures { result ≡ inner + cond (eqb i longer) 1 0 }
 {
-    if i == longer {
-        return inner + 1;
-    }
-    inner
+    inner + usize::from(i == longer)
 }
 
 // Writes the start of the side from place `i` and its inner points, from place `at` on; a side of length at most
 // 1e-12 gets no inner points. Answers how many nodes are written.
 fn place_side(
-    pts: &[f64],
-    n: usize,
-    back: bool,
+    ring: LoopRing<'_>,
     h: f64,
     corner_margin: f64,
     i: usize,
@@ -81,17 +74,17 @@ fn place_side(
     points: &mut [f64],
     at: usize,
 ) -> usize
-    requires n_bound { (n * 2 ≤ lists.length pts.now) × (i < n) × (length ≡ plans.side_at (turned_if back (ring_of pts.now n)) i) × (span ≡ plans.span h corner_margin (turned_if back (ring_of pts.now n)) i) }
-    requires i_value { plans.parts h corner_margin (turned_if back (ring_of pts.now n)) i ≡ plans.inner h corner_margin (turned_if back (ring_of pts.now n)) i + cond (eqb i longer) 1 0 }
-    requires i_bound { (at + 1 + plans.parts h corner_margin (turned_if back (ring_of pts.now n)) i ≤ front_node_limit) × (front_node_limit * 2 ≤ lists.length points.old) }
-    ensures { (result ≡ laid.placed_on h corner_margin (turned_if back (ring_of pts.now n)) i + 1)
+    requires n_bound { (i < ring.n) × (length ≡ plans.side_at (read_ring ring) i) × (span ≡ plans.span h corner_margin (read_ring ring) i) }
+    requires i_value { plans.parts h corner_margin (read_ring ring) i ≡ plans.inner h corner_margin (read_ring ring) i + cond (eqb i longer) 1 0 }
+    requires i_bound { (at + 1 + plans.parts h corner_margin (read_ring ring) i ≤ front_node_limit) × (front_node_limit * 2 ≤ lists.length points.old) }
+    ensures { (result ≡ laid.placed_on h corner_margin (read_ring ring.entry) i + 1)
         × (points.new ≡ sets points.old (at * 2)
-        (((turned_if back (ring_of pts.now n)).at i).x ∷ ((turned_if back (ring_of pts.now n)).at i).y
-        ∷ laid.inner_points h corner_margin (turned_if back (ring_of pts.now n)) i
-        (plans.parts h corner_margin (turned_if back (ring_of pts.now n)) i)
-        (laid.placed_on h corner_margin (turned_if back (ring_of pts.now n)) i))) }
+        (((read_ring ring.entry).at i).x ∷ ((read_ring ring.entry).at i).y
+        ∷ laid.inner_points h corner_margin (read_ring ring.entry) i
+        (plans.parts h corner_margin (read_ring ring.entry) i)
+        (laid.placed_on h corner_margin (read_ring ring.entry) i))) }
 {
-    let a = ring_point(pts, n, back, i);
+    let a = ring.point(i);
     geometry::put_point(points, at, a.x, a.y);
     if length <= 1e-12 {
         return 1;
@@ -100,9 +93,8 @@ fn place_side(
     if k == 0 {
         return 1;
     }
-    let j = geometry::next_of(n, i);
-    let b = ring_point(pts, n, back, j);
-    let margin = margin_at(pts, n, back, h, corner_margin, i);
+    let b = ring.point(geometry::next_of(ring.n, i));
+    let margin = margin_at(ring, h, corner_margin, i);
     place_inner(a, b, length, margin, span, k, points, at + 1);
     k + 1
 }
@@ -129,26 +121,20 @@ pub fn place(
         × (result ≤ plans.planned h corner_margin (turned_if back (ring_of pts.now n)))
         × (points.new ≡ sets points.old (at * 2) (laid.placed h corner_margin (turned_if back (ring_of pts.now n)) n)) }
 {
-    let mut placed = 0usize;
-    let mut i = 0usize;
-    while i < n {
-        let length = lengths[i];
-        let span = spans[i];
-        let more = place_side(
-            pts,
-            n,
-            back,
+    let ring = LoopRing { pts, n, back };
+    let mut placed = 0;
+    for i in 0..n {
+        placed += place_side(
+            ring,
             h,
             corner_margin,
             i,
-            length,
-            span,
+            lengths[i],
+            spans[i],
             longer,
             points,
             at + placed,
         );
-        placed += more;
-        i += 1;
     }
     placed
 }

@@ -13,20 +13,14 @@ use geometry::Point;
 fn tiny(d: f64) -> bool
     ensures { result ≡ lt (absolute d) (decimal 1 12) }
 {
-    if d < 1e-12 {
-        return -1e-12 < d;
-    }
-    false
+    d < 1e-12 && -1e-12 < d
 }
 
 // Both coordinate differences are below 1e-12.
 fn close(a: Point, b: Point) -> bool
     ensures { result ≡ rings.close a b }
 {
-    if tiny(a.x - b.x) {
-        return tiny(a.y - b.y);
-    }
-    false
+    tiny(a.x - b.x) && tiny(a.y - b.y)
 }
 
 // Whether `p` is close to the last of the `m` points kept.
@@ -34,10 +28,7 @@ fn close_to_last(kept: &[f64], m: usize, p: Point) -> bool
     requires { m * 2 ≤ length kept.now }
     ensures { result ≡ close_to_last kept.now m p }
 {
-    if m == 0 {
-        return false;
-    }
-    close(geometry::point_at(kept, m - 1), p)
+    0 < m && close(geometry::point_at(kept, m - 1), p)
 }
 
 // Keeps `p` behind the `m` points kept, unless it is close to the last of them; answers how many are kept.
@@ -59,11 +50,8 @@ pub fn keep_points(coords: &[f64], n: usize, kept: &mut [f64]) -> usize
     ensures { (result ≤ n) × (result * 2 ≡ length (rings.kept (ring_of coords.now n) n)) × (kept.new ≡ sets kept.old 0 (rings.kept (ring_of coords.now n) n)) }
 {
     let mut m = 0usize;
-    let mut k = 0usize;
-    while k < n {
-        let p = geometry::point_at(coords, k);
-        m = keep_point(kept, m, p);
-        k += 1;
+    for k in 0..n {
+        m = keep_point(kept, m, geometry::point_at(coords, k));
     }
     m
 }
@@ -73,13 +61,10 @@ pub fn all_apart(coords: &[f64], n: usize) -> bool
     requires { n * 2 ≤ length coords.now }
     ensures { result ≡ true → take (n * 2) coords.now ≡ rings.kept (ring_of coords.now n) n }
 {
-    let mut k = 0usize;
-    while k < n {
-        let p = geometry::point_at(coords, k);
-        if close_to_last(coords, k, p) {
+    for k in 0..n {
+        if close_to_last(coords, k, geometry::point_at(coords, k)) {
             return false;
         }
-        k += 1;
     }
     true
 }
@@ -90,12 +75,8 @@ pub fn unclosed(kept: &[f64], n: usize) -> usize
     ensures { (result ≡ rings.unclosed kept.now n) × (result ≤ n) }
 {
     let mut m = n;
-    while 1 < m {
-        let first = geometry::point_at(kept, 0);
-        let last = geometry::point_at(kept, m - 1);
-        if !close(first, last) {
-            return m;
-        }
+    // from the end, until one stays: no index goes over the points
+    while 1 < m && close(geometry::point_at(kept, 0), geometry::point_at(kept, m - 1)) {
         m -= 1;
     }
     m

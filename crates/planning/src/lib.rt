@@ -2,11 +2,13 @@
 #![tactic(auto)]
 
 mod keep;
+mod loop_ring;
 mod plan;
 mod ring;
 mod sides;
 
 pub use keep::{all_apart, keep_points};
+pub use loop_ring::LoopRing;
 pub use plan::{Plan, inner_of, plan_sides};
-pub use ring::{Turned, kept_ring, ring_point};
+pub use ring::{Turned, kept_ring};
 pub use sides::margin_at;

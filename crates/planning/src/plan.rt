@@ -10,6 +10,7 @@ ghost use Rattle.planning.specs.Plan as plans;
 ghost use Rattle.planning.specs.Backwards.{turned_if};
 ghost use Rattle.planning.specs.Measured.{Measured};
 
+use crate::loop_ring::LoopRing;
 use crate::sides::measure_sides;
 
 // The nodes planned, where inner points over 2,048 count as 2,049; and the longest side with a positive span.
@@ -31,13 +32,10 @@ pub fn inner_of(span: f64, h: f64) -> usize
     ensures { result ≡ cond (lt span (decimal 6 1 ⊗ h)) 0 (max 1 (round_away (span ⊘ h))) }
 {
     if span < 0.6 * h {
-        return 0;
+        0
+    } else {
+        float::round_away(span / h).max(1)
     }
-    let k = float::round_away(span / h);
-    if k < 1 {
-        return 1;
-    }
-    k
 }
 
 // What is left of a side's length between its margins.
@@ -45,10 +43,7 @@ fn span_of(length: f64, start: f64, end: f64) -> f64
     ensures { result ≡ greater (length ⊖ start ⊖ end) (decimal 0 0) }
 {
     let left = length - start - end;
-    if 0.0 <= left {
-        return left;
-    }
-    0.0
+    if 0.0 <= left { left } else { 0.0 }
 }
 
 // The sum of inner points, which stays at 2,049 once it is over 2,048.
@@ -56,10 +51,7 @@ fn capped(sum: usize, inner: usize) -> usize
     requires { sum ≤ 2049 }
     ensures { result ≡ min (sum + inner) 2049 }
 {
-    if 2049 - sum < inner {
-        return 2049;
-    }
-    sum + inner
+    sum + inner.min(2049 - sum)
 }
 
 // The longer of two sides, the first on a tie; the second counts only with a positive span.
@@ -67,12 +59,11 @@ fn longer(best: Best, span: f64, length: f64, i: usize) -> Best
     ensures { (result.side ≡ cond (lt (decimal 0 0) span && lt best.length length) i best.side)
         × (result.length ≡ cond (lt (decimal 0 0) span && lt best.length length) length best.length) }
 {
-    if 0.0 < span {
-        if best.length < length {
-            return Best { side: i, length };
-        }
+    if 0.0 < span && best.length < length {
+        Best { side: i, length }
+    } else {
+        best
     }
-    best
 }
 
 // The margin at place `j`, where the first has been overwritten.
@@ -80,10 +71,7 @@ fn margin_behind(margins: &[f64], first: f64, j: usize) -> f64
     requires { j < length margins.now }
     ensures { result ≡ cond (eqb j 0) first (get_or margins.now j nan) }
 {
-    if j == 0 {
-        return first;
-    }
-    margins[j]
+    if j == 0 { first } else { margins[j] }
 }
 
 // Plans the sides of any ring that has these lengths and margins. Each margin gives way to the side's span.
@@ -100,8 +88,7 @@ fn plan_measured(n: usize, h: f64, lengths: &[f64], spans: &mut [f64]) -> Plan
         length: -1.0,
     };
     let mut start = first;
-    let mut i = 0usize;
-    while i < n {
+    for i in 0..n {
         let end = margin_behind(spans, first, geometry::next_of(n, i));
         let length = lengths[i];
         let span = span_of(length, start, end);
@@ -109,7 +96,6 @@ fn plan_measured(n: usize, h: f64, lengths: &[f64], spans: &mut [f64]) -> Plan
         sum = capped(sum, inner_of(span, h));
         best = longer(best, span, length, i);
         start = end;
-        i += 1;
     }
     Plan {
         total: n + sum,
@@ -133,6 +119,7 @@ pub fn plan_sides(
         × ((i : ℕ) → i < n → get_or lengths.new i nan ≡ plans.side_at (turned_if back (ring_of pts.now n)) i)
         × ((i : ℕ) → i < n → get_or spans.new i nan ≡ plans.span h corner_margin (turned_if back (ring_of pts.now n)) i) }
 {
-    measure_sides(pts, n, back, h, corner_margin, lengths, spans);
+    let ring = LoopRing { pts, n, back };
+    measure_sides(ring, h, corner_margin, lengths, spans);
     plan_measured(n, h, lengths, spans)
 }

@@ -6,9 +6,10 @@ ghost use Rattle.float.specs.Helpers.{decimal};
 ghost use Rattle.geometry.specs.Rings.{Ring, ring_of};
 ghost use Rattle.geometry.specs.Measures as measures;
 ghost use Rattle.planning.specs.Ring as rings;
-ghost use Rattle.planning.specs.Backwards.{turned_if};
+ghost use Rattle.planning.specs.Backwards.{read_ring, turned_if};
 
 use crate::keep::unclosed;
+use crate::loop_ring::LoopRing;
 use geometry::Point;
 
 // A loop's ring: the first `size` of the points kept, read backwards if `back`.
@@ -18,15 +19,26 @@ pub struct Turned {
     pub back: bool,
 }
 
-// The point at place `i`.
-pub fn ring_point(pts: &[f64], n: usize, back: bool, i: usize) -> Point
-    requires { (n * 2 ≤ length pts.now) × (i < n) }
-    ensures { result ≡ (turned_if back (ring_of pts.now n)).at i }
-{
-    if back {
-        return geometry::point_at(pts, n - 1 - i);
+impl<'a> LoopRing<'a> {
+    // The point at place `i`.
+    pub fn point(self, i: usize) -> Point
+        requires { i < self.n }
+        ensures { result ≡ (read_ring self.entry).at i }
+    {
+        let place = if self.back { self.n - 1 - i } else { i };
+        geometry::point_at(self.pts, place)
     }
-    geometry::point_at(pts, i)
+
+    // Whether the corner at place `i` is sharp.
+    pub fn is_sharp(self, i: usize) -> bool
+        requires { i < self.n }
+        ensures { result ≡ measures.sharp_at (read_ring self.entry) i }
+    {
+        let a = self.point(geometry::prev_of(self.n, i));
+        let b = self.point(i);
+        let c = self.point(geometry::next_of(self.n, i));
+        sharp_between(toward(a, b), toward(b, c))
+    }
 }
 
 // The vector from `a` to `b`.
@@ -46,28 +58,12 @@ pub fn sharp_between(d: Point, e: Point) -> bool
     geometry::sharp_turn(d.x * e.y - d.y * e.x, d.x * e.x + d.y * e.y)
 }
 
-// Whether the corner at place `i` is sharp.
-pub fn sharp_corner(pts: &[f64], n: usize, back: bool, i: usize) -> bool
-    requires { (n * 2 ≤ length pts.now) × (i < n) }
-    ensures { result ≡ measures.sharp_at (turned_if back (ring_of pts.now n)) i }
-{
-    let h = geometry::prev_of(n, i);
-    let j = geometry::next_of(n, i);
-    let a = ring_point(pts, n, back, h);
-    let b = ring_point(pts, n, back, i);
-    let c = ring_point(pts, n, back, j);
-    sharp_between(toward(a, b), toward(b, c))
-}
-
 // The outer loop is turned when its area is not positive, a hole when its area is positive.
 fn turns(pts: &[f64], n: usize, ccw: bool) -> bool
     requires { n * 2 ≤ length pts.now }
     ensures { result ≡ not (beq (lt (decimal 0 0) (measures.signed_area (ring_of pts.now n))) ccw) }
 {
-    if 0.0 < geometry::signed_area(pts, n) {
-        return !ccw;
-    }
-    ccw
+    (0.0 < geometry::signed_area(pts, n)) != ccw
 }
 
 // Finds the ring of any loop of which these points are kept.

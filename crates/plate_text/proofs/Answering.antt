@@ -1,26 +1,22 @@
 -- The job that a text is: too many loops or points are number 1, and what an accepted job left is sound.
 use mathlib.Core.Path.{◌≡◌, refl, sym, ◌∙◌, ap}
-use mathlib.Core.Bool.{Bool, true, false, not, cond, ◌||◌}
-use mathlib.Core.List.{List, [], ◌∷◌}
-use Prim.Native.Nat.{ℕ, ◌/◌, ◌<◌, ◌≤◌}
-use native.Mathlib.Omega.{arith}
-use lib.Dec.{eqb, ltb}
+use mathlib.Core.Bool.{Bool, true, false, ◌||◌}
+use mathlib.Core.List.{List}
+use Prim.Native.Nat.{ℕ, ◌/◌, ◌<◌}
 use lib.Ieee.{Float}
 use lib.ListN.{length}
 use borrow.Author.Tests.{lt-ltb}
 use Rattle.state.specs.Limits.{front_limit, front_node_limit, points_length, quads_length}
 use Rattle.state.specs.declared.Counts.{Counts}
-use Rattle.state.specs.declared.Answer.{Answer}
-use Rattle.state.specs.declared.Answer.TheVariants.{Done, Refused}
-use Rattle.state.specs.State.{Held, Lengths, State, lengths, zeros}
-use Rattle.state.specs.Outcome.{Outcome, refused, gives, first_true, test}
+use Rattle.state.specs.State.{Lengths, lengths}
+use Rattle.state.specs.Outcome.{Outcome, refused, gives, first_true}
 use Rattle.state.specs.Call.{Left, held, lengths_of, number_of, job_left, lent}
 use Rattle.state.specs.Given.{wrong_state}
 use Rattle.input.specs.declared.Options.{Options}
 use Rattle.input.specs.Defaults.{defaults}
 use Rattle.input.specs.Job.{Job, job, wrong_shape, input_number, loop_limit, pair_limit}
 use Rattle.sampling.specs.Sample.{on_job}
-use Rattle.rules.specs.Calls.{job_call, paved}
+use Rattle.rules.specs.Calls.{job_call}
 use Rattle.rules.proofs.Demands as demands
 use Rattle.answer_text.specs.AnswerText.{answer_text, refused_text}
 use Rattle.answer_text.specs.Fits.{SoundAnswer}
@@ -52,11 +48,11 @@ refused_1 j l h = rw h
 -- ---- the answer of a job in the lent buffers
 
 -- it is that of the definition, and sound
-module _ (x : Left) (coords : List Float) (loops : List ℕ) (h : Float) (o : Options) (p q n l : ℕ) (call : x ≡ job_call (job coords loops h o) (lengths_of p q n l)) where
-  pub answer_is : o ≡ defaults → p ≡ points_length → q ≡ quads_length → n ≡ front_node_limit → l ≡ front_limit → x ≡ job_call (job coords loops h defaults) lent
-  answer_is d e f g k = call ∙ rw (d, e, f, g, k)
+module _ (x : Left) (j : Job) (p q n l : ℕ) (call : x ≡ job_call j (lengths_of p q n l)) where
+  pub answer_is : p ≡ points_length → q ≡ quads_length → n ≡ front_node_limit → l ≡ front_limit → x ≡ job_call j lent
+  answer_is e f g k = call ∙ rw (e, f, g, k)
 
   pub answer_sound : lengths x.held ≡ lent → SoundAnswer x
   answer_sound e =
       sound_answer x e
-      (λ (z : number_of x ≡ 0). ap (λ (y : Left). wrong_state y.held) call ∙ (demands.demand_3).accepted_back (job coords loops h o) (lengths_of p q n l) (ap number_of (sym call) ∙ z))
+      (λ (z : number_of x ≡ 0). ap (λ (y : Left). wrong_state y.held) call ∙ (demands.demand_3).accepted_back j (lengths_of p q n l) (ap number_of (sym call) ∙ z))

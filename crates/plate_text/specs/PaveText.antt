@@ -1,6 +1,6 @@
 -- From the text of a job to the text of its answer. Definitions only.
 use Rattle.std.specs.Prelude.{ℕ, cond, List, ltb}
-use Rattle.std.proofs.Math.Option.{Option, Option-elim}
+use Rattle.std.proofs.Math.Option.{Option-elim}
 use Rattle.std.proofs.Math.ListN as lists
 use Rattle.state.specs.State.{padded}
 use Rattle.state.specs.Call.{lent}

@@ -1,13 +1,18 @@
 // Jobs that no text can say: sizes, coordinates and options.
 use calls::run;
-use input::{Options, default_limit, defaults};
+use input::{Job, Options, default_limit, defaults};
 use showing::line;
 
 fn pave(rt: &impl Print, name: &[u8], h: f64, options: Options, coords: &[f64]) {
     line(rt, name);
-    let n = coords.len() / 2;
-    if n < 65536 {
-        run(rt, h, options, coords, &[state::narrow(n)], b"j");
+    if let Ok(n) = u16::try_from(coords.len() / 2) {
+        let job = Job {
+            coords,
+            loop_lengths: &[n],
+            h,
+            options,
+        };
+        run(rt, &job, b"j");
     }
 }
 
@@ -40,12 +45,8 @@ fn sides(rt: &impl Print) {
 
 fn with_limit(corner_limit: f64) -> Options {
     Options {
-        corner_margin: Options::CORNER_MARGIN,
-        min_edge_fraction: Options::MIN_EDGE,
-        front_gap: Options::FRONT_GAP,
-        max_row_rounds: Options::MAX_ROW_ROUNDS,
-        seam: false,
         corner_limit,
+        ..defaults()
     }
 }
 

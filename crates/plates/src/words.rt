@@ -3,10 +3,10 @@
 ghost use Rattle.std.specs.Prelude.{◌≡◌, ◌≤◌, length, take};
 
 use calls::run;
-use input::defaults;
-use job_text::{JobRead, read_job};
+use input::{Job, defaults};
+use job_text::read_job;
 use showing::{line, show_text};
-use standard::{Input, answer_buffer, read_input};
+use standard::{answer_buffer, read_input};
 use std::rt::{Env, Files};
 use std::{env, fs, io};
 
@@ -22,13 +22,11 @@ fn read_file(rt: &(impl Files + Eprint), path: &str, input: &mut [u8; 65536]) ->
             return 0;
         }
     };
-    match read_input(&mut file, input) {
-        Input::Bytes(n) => n,
-        Input::Failed => {
-            let _ = eprintln!(rt; "{path}: it could not be read");
-            0
-        }
-    }
+    let Ok(n) = read_input(&mut file, input) else {
+        let _ = eprintln!(rt; "{path}: it could not be read");
+        return 0;
+    };
+    n
 }
 
 fn pave(rt: &impl Print, text: &[u8]) {
@@ -40,24 +38,22 @@ fn pave(rt: &impl Print, text: &[u8]) {
 fn call(rt: &impl Print, text: &[u8], letters: &[u8]) {
     let mut coords = [0.0; 4096];
     let mut loops = [0u16; 16];
-    let JobRead::Is(size, pairs, count) = read_job(text, &mut coords, &mut loops) else {
+    let Ok(read) = read_job(text, &mut coords, &mut loops) else {
         return;
     };
-    if 2048 < pairs {
+    if 2048 < read.pairs {
         return;
     }
-    if 16 < count {
+    if 16 < read.loops {
         return;
     }
-    let floats = pairs * 2;
-    run(
-        rt,
-        size,
-        defaults(),
-        &coords[..floats],
-        &loops[..count],
-        letters,
-    );
+    let job = Job {
+        coords: &coords[..read.pairs * 2],
+        loop_lengths: &loops[..read.loops],
+        h: read.size,
+        options: defaults(),
+    };
+    run(rt, &job, letters);
 }
 
 fn answer(rt: &(impl Files + Print + Eprint), word: &str) {

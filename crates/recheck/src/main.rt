@@ -3,11 +3,9 @@
 // error says so; the same when the answer could not be written whole.
 #![tactic(auto)]
 
-use standard::Input;
-
 fn main(rt: HostRuntime) {
     let mut input = standard::list_input();
-    let Input::Bytes(n) = standard::read_input(&mut rt.stdin(), &mut input) else {
+    let Ok(n) = standard::read_input(&mut rt.stdin(), &mut input) else {
         standard::say_unread(&rt);
         return;
     };

@@ -1,11 +1,11 @@
 -- For whoever lays row after row: an accepted row leaves a state that fits, and so a row, laid or refused, leaves buffers on which the next can be laid.
-use mathlib.Core.Path.{◌≡◌, refl, sym, ap}
+use mathlib.Core.Path.{◌≡◌, refl, ap}
 use mathlib.Core.Bool.{true}
-use mathlib.Core.List.{List, [], ◌∷◌, ◌++◌}
-use Prim.Native.Nat.{ℕ, ◌+◌, ◌*◌, ◌/◌, ◌≤◌}
+use mathlib.Core.List.{List, ◌++◌}
+use Prim.Native.Nat.{ℕ, ◌+◌, ◌/◌, ◌≤◌}
 use native.Mathlib.Omega.{arith}
 use lib.Ieee.{Float}
-use lib.ListN.{length, set, length-append, length-set}
+use lib.ListN.{length, length-append, length-set}
 use Rattle.state.specs.Limits.{point_limit, quad_limit}
 use Rattle.state.specs.State.{State, Held, joined, nodes, numbered, written, reading}
 use Rattle.state.specs.Outcome.{Outcome, refused, gives}

@@ -1,22 +1,21 @@
 -- One row on sound buffers: what the code reads is what the definition reads, and the call's answer from the row's number.
-use mathlib.Core.Path.{◌≡◌, refl, sym, ◌∙◌}
-use mathlib.Core.Bool.{Bool, true, false, cond, ◌||◌}
+use mathlib.Core.Path.{◌≡◌, refl, sym}
+use mathlib.Core.Bool.{Bool, true, false, ◌||◌}
 use mathlib.Core.List.{List, [], ◌∷◌}
 use Prim.Native.Nat.{ℕ, ◌+◌, ◌*◌, ◌/◌, ◌<◌, ◌≤◌}
 use native.Mathlib.Omega.{arith}
-use borrow.Author.Tests.{eqb-true, eqb-false, ne_eqb, ltb-false, le-leb, lt-leb}
-use lib.Dec.{eqb, ltb}
+use borrow.Author.Tests.{ne_eqb, ltb-false, le-leb, lt-leb}
+use lib.Dec.{ltb}
 use lib.Ieee.{Float}
 use lib.ListN.{length, get_or, take}
 use Rattle.geometry.specs.Rings.{Ring, node_ring}
 use Rattle.geometry.specs.Domain.{sum_of}
-use Rattle.state.specs.declared.Answer.TheVariants as Answers
 use Rattle.state.specs.Limits.{point_limit, quad_limit}
 use Rattle.state.specs.State.{State, Held, cut, reading, written, counts_of}
-use Rattle.state.specs.Outcome.{first_true, test, outcome}
+use Rattle.state.specs.Outcome.{first_true, test, outcome, refused, gives}
 use Rattle.state.specs.Call.{Left, left, state_left}
 use Rattle.state.specs.Sound.{Sound, sizes_of}
-use Rattle.state.proofs.Basics.{zero_one, twenty_one, twenty_two}
+use Rattle.state.proofs.Basics.{twenty_one, twenty_two}
 use Rattle.state.proofs.Cutting.{cut-length}
 use Rattle.state.proofs.Reading.{Counted, sound_counted, fits, points_long_lem, fronts_read, length-quads_of}
 use Rattle.state.proofs.Zeros.{same_sizes, same_points, same_quads_lem}
@@ -24,9 +23,9 @@ use Rattle.input.specs.Job.{Job}
 use Rattle.rules.specs.Checks.{new_points}
 use Rattle.rules.specs.Row.{row_number, committed, next_row}
 use Rattle.rules.specs.RowCall.{row_at}
-use Rattle.row_checks.specs.declared.Tried.{Tried}
-use Rattle.row_checks.specs.declared.Tried.TheVariants.{Stands, Refused}
-use Rattle.row_checks.specs.Candidate.{tried}
+use Rattle.state.specs.declared.refusal.Refusal.{Refusal}
+use Rattle.state.specs.Refusals.{number as number_of}
+use Rattle.state.proofs.Refusing.{number_nonzero}
 use Rattle.row_laying.specs.Room.{Room}
 
 -- a row whose number is 0 has room
@@ -48,23 +47,8 @@ room_left j pts fronts quads li n hn e =
 renamed : (r : Ring) (h : Float) (row : List Float) (n m k : ℕ) → m ≡ n → n ≡ k → take (n * 2) row ≡ new_points r h n → take (m * 2) row ≡ new_points r h k
 renamed r h row n m k e f g = rw (e, ← f) g
 
--- a row tried, by its number
-refused_number : (r : Tried) (m n : ℕ) → r ≡ tried m → r ≡ Refused n → (m ≡ n) × (n ≡ 0 → ⊥)
-refused_number r m n e f = go (eqb m 0) refl (sym e ∙ f)
-  where
-    go : (t : Bool) → eqb m 0 ≡ t → cond t Stands (Refused m) ≡ Refused n → (m ≡ n) × (n ≡ 0 → ⊥)
-    go true d g = let z : ◌≡◌ {A = ℕ} 0 1 = cc in absurd (zero_one z)
-    go false d g = let same : m ≡ n = cc in (same, λ z. eqb-false m 0 d (same ∙ z))
-
-stands_number : (r : Tried) (m : ℕ) → r ≡ tried m → r ≡ Stands → m ≡ 0
-stands_number r m e f = go (eqb m 0) refl (sym e ∙ f)
-  where
-    go : (t : Bool) → eqb m 0 ≡ t → cond t Stands (Refused m) ≡ Stands → m ≡ 0
-    go true d g = eqb-true m 0 d
-    go false d g = let z : ◌≡◌ {A = ℕ} 0 1 = cc in absurd (zero_one z)
-
 -- buffers and counts that are a state, written
-done_is : (s : State) (l : Held) → l ≡ written s → left (Answers.Done l.counts) l ≡ record { answer = Answers.Done (counts_of s); held = written s }
+done_is : (s : State) (l : Held) → l ≡ written s → left (gives l.counts) l ≡ record { answer = gives (counts_of s); held = written s }
 unfolding written
 done_is s l f = rw f
 
@@ -89,24 +73,24 @@ module _ (b : Held) (sound : Sound b) where
     unfolding reading next_row
     next_is j = rw (length-quads_of b.counts.quads b.quads)
 
-    pub refuses : (j : Job) (r : Tried) (n : ℕ) → r ≡ tried (number j) → r ≡ Refused n → left (Answers.Refused n) b ≡ state_left b (next_row j (reading b) li)
+    pub refuses : (j : Job) (e : Refusal) → number_of e ≡ number j → left (refused (number_of e)) b ≡ state_left b (next_row j (reading b) li)
     unfolding state_left
-    refuses j r n e f = let g = refused_number r (number j) n e f in rw (next_is j, g.0, ne_eqb n 0 g.1)
+    refuses j e h = let n : number_of e ≡ 0 → ⊥ = number_nonzero e in rw (next_is j, ← h, ne_eqb (number_of e) 0 n)
 
-    pub lays : (j : Job) (r : Tried) (row : List Float) (l : Held) → r ≡ tried (number j) → r ≡ Stands → row ≡ points-of j → l ≡ written (committed (reading b) li row)
-        → left (Answers.Done l.counts) l ≡ state_left b (next_row j (reading b) li)
+    pub lays : (j : Job) (row : List Float) (l : Held) → 0 ≡ number j → row ≡ points-of j → l ≡ written (committed (reading b) li row)
+        → left (gives l.counts) l ≡ state_left b (next_row j (reading b) li)
     unfolding state_left
-    lays j r row l e z h f = rw (next_is j, stands_number r (number j) e z, ← h) (done_is (committed (reading b) li row) l f)
+    lays j row l e h f = rw (next_is j, ← e, ← h) (done_is (committed (reading b) li row) l f)
 
     pub row_read : (j : Job) (row : List Float) (m : ℕ) → m ≡ get_or (sizes_of b) li 0
         → take (get_or (sizes_of b) li 0 * 2) row ≡ new_points (node_ring (take (b.counts.points * 2) b.points) (get_or (cut (sizes_of b) b.front_nodes) li [])) j.h (get_or (sizes_of b) li 0)
         → take (m * 2) row ≡ points-of j
     row_read j row m e g = renamed _ j.h row (get_or (sizes_of b) li 0) m _ e (cut-length (sizes_of b) b.front_nodes li hl (fits b counted) _ refl) g
 
-    pub has_room : (j : Job) (r : Tried) (m : ℕ) → r ≡ tried (number j) → r ≡ Stands → m ≡ get_or (sizes_of b) li 0 * 2 → Room b li m
-    has_room j t m e g f =
+    pub has_room : (j : Job) (m : ℕ) → 0 ≡ number j → m ≡ get_or (sizes_of b) li 0 * 2 → Room b li m
+    has_room j m e f =
         let n = get_or (sizes_of b) li 0 in
-        let r = room_left j (take (b.counts.points * 2) b.points) (cut (sizes_of b) b.front_nodes) b.counts.quads li n (cut-length (sizes_of b) b.front_nodes li hl (fits b counted) n refl) (stands_number t (number j) e g) in
+        let r = room_left j (take (b.counts.points * 2) b.points) (cut (sizes_of b) b.front_nodes) b.counts.quads li n (cut-length (sizes_of b) b.front_nodes li hl (fits b counted) n refl) (sym e) in
         let p = points_long_lem b counted in
         record { front = hl; points = omega arith; quads = r.1; row = f }
 
@@ -123,7 +107,7 @@ same_room b sound c e li m r = record {
 -- ---- the call's step: 20, or the row
 
 module _ (j : Job) (li : ℕ) (b : Held) (sound : Sound b) where
-  pub no_front : b.counts.fronts ≤ li → left (Answers.Refused 20) b ≡ state_left b (row_at j li (reading b))
+  pub no_front : b.counts.fronts ≤ li → left (refused 20) b ≡ state_left b (row_at j li (reading b))
   unfolding row_at state_left
   no_front g = rw (fronts_read b (sound_counted b sound), le-leb b.counts.fronts li g)
 

@@ -1,124 +1,84 @@
 // A row tried on a front of the lent state, and laid where it stands.
-ghost use Rattle.std.specs.Prelude.{◌≡◌, true, ◌*◌, ◌<◌, ◌≤◌, get_or, length};
+ghost use Rattle.std.specs.Prelude.{◌≡◌, [], true, ◌*◌, ◌<◌, ◌≤◌, get_or, length, take};
+ghost use Rattle.geometry.specs.Rings.{node_ring};
 ghost use Rattle.geometry.specs.Domain.{sum_of};
-ghost use Rattle.state.specs.State.{reading};
-ghost use Rattle.state.specs.Call.{held, left, state_left};
-ghost use Rattle.state.specs.Sound.{Clean, Sound};
-ghost use Rattle.input.specs.Job.{job};
-ghost use Rattle.rules.specs.Row.{next_row};
+ghost use Rattle.state.specs.State.{cut, reading};
+ghost use Rattle.state.specs.Call.{left, state_left};
+ghost use Rattle.state.specs.Lent.{Same, held_in};
+ghost use Rattle.state.specs.Refusals.{answered, refusal_of};
+ghost use Rattle.state.specs.Sound.{Clean, Sound, sizes_of};
+ghost use Rattle.input.specs.Job.{job_of};
+ghost use Rattle.rules.specs.Checks.{new_points};
+ghost use Rattle.rules.specs.Row.{next_row, row_number};
 
-use geometry::wide;
-use input::Options;
-use row_checks::{Tried, try_row};
+use input::Job;
+use row_checks::try_row;
 use row_laying::lay_row;
-use state::{Answer, Counts, clear_behind};
+use state::{Counts, Lent, Refusal};
 
-// A row on front `li`, projected into `row`. Buffers that are not `clean` get their zeros before the row is laid, and a refused row
-// leaves everything as it was.
-fn row_in(
-    coords: &[f64],
-    loop_lengths: &[u16],
-    h: f64,
-    options: Options,
-    li: usize,
-    points: &mut [f64],
-    quads: &mut [u16],
-    front_nodes: &mut [u16],
-    front_lengths: &mut [u16],
-    counts: Counts,
-    clean: bool,
-    row: &mut [f64],
-) -> Answer
-    requires sound { Sound (held points.old quads.old front_nodes.old front_lengths.old counts) }
-    requires clean { clean ≡ true → Clean (held points.old quads.old front_nodes.old front_lengths.old counts) }
-    requires li_lt_fronts { (li < counts.fronts) × (sum_of loop_lengths.now * 2 ≤ length coords.now) }
-    requires li_in_bounds { get_or front_lengths.old li 0 * 2 ≤ length row.old }
-    ensures { left result (held points.new quads.new front_nodes.new front_lengths.new counts)
-        ≡ state_left (held points.old quads.old front_nodes.old front_lengths.old counts)
-        (next_row (job coords.now loop_lengths.now h options) (reading (held points.old quads.old front_nodes.old front_lengths.old counts)) li) }
+// A row on front `li` of the state tried. When it stands its points are the first of `row`.
+fn try_on(job: &Job, lent: &Lent, counts: Counts, li: usize, row: &mut [f64]) -> Result<(), Refusal>
+    requires sound { Sound (held_in lent.now counts) }
+    requires li_lt_fronts { (li < counts.fronts) × (sum_of job.now.loop_lengths.now * 2 ≤ length job.now.coords.now) }
+    requires room { get_or (sizes_of (held_in lent.now counts)) li 0 * 2 ≤ length row.old }
+    ensures value { refusal_of result ≡ row_number (job_of job.now) (take (counts.points * 2) lent.now.points.now) (cut (sizes_of (held_in lent.now counts)) lent.now.front_nodes.now) counts.quads li }
+    ensures row_after { refusal_of result ≡ 0 → take (get_or (sizes_of (held_in lent.now counts)) li 0 * 2) row.new
+        ≡ new_points (node_ring (take (counts.points * 2) lent.now.points.now) (get_or (cut (sizes_of (held_in lent.now counts)) lent.now.front_nodes.now) li [])) job.now.h (get_or (sizes_of (held_in lent.now counts)) li 0) }
 {
-    let end = counts.points * 2;
-    let fronts = counts.fronts;
-    let tried = try_row(
-        coords,
-        loop_lengths,
-        h,
-        options,
-        &points[..end],
-        front_nodes,
-        &front_lengths[..fronts],
+    try_row(
+        job,
+        &lent.points[..counts.points * 2],
+        lent.front_nodes,
+        &lent.front_lengths[..counts.fronts],
         counts.quads,
         li,
         row,
-    );
-    if let Tried::Refused(number) = tried {
-        return Answer::Refused(number);
-    }
-    let m = wide(front_lengths[li]) * 2;
-    clear_behind(clean, points, quads, front_nodes, front_lengths, counts);
-    let after = lay_row(
-        points,
-        quads,
-        front_nodes,
-        front_lengths,
-        counts,
-        li,
-        &row[..m],
-    );
-    Answer::Done(after)
+    )
 }
 
-// The same in an array of its own. Most fronts are short, and a smaller array is made sooner.
-pub fn row_on(
-    coords: &[f64],
-    loop_lengths: &[u16],
-    h: f64,
-    options: Options,
+// A row on front `li`, projected into an array of `N` numbers. Buffers that are not `clean` get their zeros before the row is laid, and
+// a refused row leaves everything as it was.
+fn row_in<const N: usize>(
+    job: &Job,
     li: usize,
-    points: &mut [f64],
-    quads: &mut [u16],
-    front_nodes: &mut [u16],
-    front_lengths: &mut [u16],
+    lent: &mut Lent,
     counts: Counts,
     clean: bool,
-) -> Answer
-    requires sound { Sound (held points.old quads.old front_nodes.old front_lengths.old counts) }
-    requires clean { clean ≡ true → Clean (held points.old quads.old front_nodes.old front_lengths.old counts) }
-    requires li_lt_fronts { (li < counts.fronts) × (sum_of loop_lengths.now * 2 ≤ length coords.now) }
-    ensures { left result (held points.new quads.new front_nodes.new front_lengths.new counts)
-        ≡ state_left (held points.old quads.old front_nodes.old front_lengths.old counts)
-        (next_row (job coords.now loop_lengths.now h options) (reading (held points.old quads.old front_nodes.old front_lengths.old counts)) li) }
+) -> Result<Counts, Refusal>
+    requires sound { Sound (held_in lent.old counts) }
+    requires clean { clean ≡ true → Clean (held_in lent.old counts) }
+    requires li_lt_fronts { (li < counts.fronts) × (sum_of job.now.loop_lengths.now * 2 ≤ length job.now.coords.now) }
+    requires room { (get_or lent.old.front_lengths.now li 0 * 2 ≤ N) × (N ≤ 4096) }
+    ensures same { Same lent.old lent.new }
+    ensures left { left (answered result) (held_in lent.new counts)
+        ≡ state_left (held_in lent.old counts) (next_row (job_of job.now) (reading (held_in lent.old counts)) li) }
 {
-    if front_lengths[li] <= 64 {
-        let mut row = [0.0; 128];
-        return row_in(
-            coords,
-            loop_lengths,
-            h,
-            options,
-            li,
-            points,
-            quads,
-            front_nodes,
-            front_lengths,
-            counts,
-            clean,
-            &mut row,
-        );
+    let mut row = [0.0; N];
+    try_on(job, lent, counts, li, &mut row)?;
+    let m = usize::from(lent.front_lengths[li]) * 2;
+    lent.clear_behind(clean, counts);
+    let after = lay_row(lent, counts, li, &row[..m]);
+    Ok(after)
+}
+
+// The same for every front. Most fronts are short, and a smaller array is made sooner.
+pub fn row_on(
+    job: &Job,
+    li: usize,
+    lent: &mut Lent,
+    counts: Counts,
+    clean: bool,
+) -> Result<Counts, Refusal>
+    requires sound { Sound (held_in lent.old counts) }
+    requires clean { clean ≡ true → Clean (held_in lent.old counts) }
+    requires li_lt_fronts { (li < counts.fronts) × (sum_of job.now.loop_lengths.now * 2 ≤ length job.now.coords.now) }
+    ensures same { Same lent.old lent.new }
+    ensures left { left (answered result) (held_in lent.new counts)
+        ≡ state_left (held_in lent.old counts) (next_row (job_of job.now) (reading (held_in lent.old counts)) li) }
+{
+    if lent.front_lengths[li] <= 64 {
+        row_in::<128>(job, li, lent, counts, clean)
+    } else {
+        row_in::<4096>(job, li, lent, counts, clean)
     }
-    let mut row = [0.0; 4096];
-    row_in(
-        coords,
-        loop_lengths,
-        h,
-        options,
-        li,
-        points,
-        quads,
-        front_nodes,
-        front_lengths,
-        counts,
-        clean,
-        &mut row,
-    )
 }

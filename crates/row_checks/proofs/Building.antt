@@ -2,7 +2,7 @@
 use mathlib.Core.Path.{◌≡◌, refl, sym, ◌∙◌, ap}
 use mathlib.Core.Bool.{Bool, true, false}
 use mathlib.Core.List.{List, [], ◌∷◌, ◌++◌}
-use Prim.Native.Nat.{ℕ, zero, suc, ◌+◌, ◌-◌, ◌*◌, ◌≤◌, ◌<◌}
+use Prim.Native.Nat.{ℕ, ◌+◌, ◌-◌, ◌*◌, ◌≤◌, ◌<◌}
 use native.Mathlib.Numerals.{add-one}
 use native.Mathlib.Omega.{arith}
 use borrow.Author.Tests.{ne_eqb}
@@ -15,8 +15,8 @@ use Rattle.geometry.specs.Rings.{Ring, next, prev}
 use Rattle.state.proofs.Stores.{point-behind, front-take}
 use Rattle.rules.specs.declared.Projection.{Projection}
 use Rattle.rules.specs.declared.Projection.TheVariants.{At, Nothing}
-use Rattle.rules.specs.Projecting.{project, projection_number, projection_values}
-use Rattle.rules.specs.Checks.{every, projection, new_points}
+use Rattle.rules.specs.Projecting.{project, projection_number}
+use Rattle.rules.specs.Checks.{projection, new_points}
 use Rattle.pairs.proofs.Sides.{next_inner}
 
 prev-after : (n i : ℕ) → prev n (i + 1) ≡ i

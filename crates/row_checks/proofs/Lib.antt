@@ -1,3 +1,4 @@
+pub mod Ranges
 pub mod Sides
 pub mod Literals
 pub mod Projects

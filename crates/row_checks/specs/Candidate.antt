@@ -1,19 +1,8 @@
 -- A candidate row as the code computes it. Definitions only.
-use Rattle.std.specs.Prelude.{ℕ, Bool, cond, List, get_or, eqb, Float}
+use Rattle.std.specs.Prelude.{ℕ, Bool, List, get_or, Float}
 use Rattle.geometry.specs.Rings.{point_at, next}
 use Rattle.geometry.specs.Measures.{corners_pass}
 use Rattle.rules.specs.Checks.{every}
-use Rattle.row_checks.specs.declared.Tried.{Tried}
-use Rattle.row_checks.specs.declared.Tried.TheVariants.{Stands, Refused}
-
--- document 01's number for each case of a row tried
-abbrev pub tried_number : Tried → ℕ
-tried_number Stands = 0
-tried_number (Refused n) = n
-
--- the case of each number
-abbrev pub tried : ℕ → Tried
-tried n = cond (eqb n 0) Stands (Refused n)
 
 -- the corner test of each of n quads, on the old nodes' points and the new points where they stand (`all_corners_pass`)
 abbrev pub corners_between : Float → List Float → List ℕ → List Float → ℕ → Bool

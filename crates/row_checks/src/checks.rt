@@ -8,13 +8,7 @@ pub fn all_inside(coords: &[f64], loops: &[u16], row: &[f64], n: usize) -> bool
     requires { (n * 2 ≤ length row.now) × (sum_of loops.now * 2 ≤ length coords.now) }
     ensures { result ≡ all_inside (rings coords.now loops.now) row.now n }
 {
-    for i in 0..n {
-        let p = geometry::point_at(row, i);
-        if !geometry::contains(coords, loops, p) {
-            return false;
-        }
-    }
-    true
+    (0..n).all(|i| geometry::contains(coords, loops, geometry::point_at(row, i)))
 }
 
 // No new point is nearer than `least` to the boundary.
@@ -22,13 +16,10 @@ pub fn all_off_boundary(coords: &[f64], loops: &[u16], row: &[f64], n: usize, le
     requires { (n * 2 ≤ length row.now) × (sum_of loops.now * 2 ≤ length coords.now) }
     ensures { result ≡ all_off_boundary (rings coords.now loops.now) least row.now n }
 {
-    for i in 0..n {
+    (0..n).all(|i| {
         let p = geometry::point_at(row, i);
-        if geometry::distance_to_boundary(coords, loops, p) < least {
-            return false;
-        }
-    }
-    true
+        !(geometry::distance_to_boundary(coords, loops, p) < least)
+    })
 }
 
 // No new point is nearer than `least` to the front of these nodes.
@@ -37,11 +28,8 @@ pub fn all_clear_of(points: &[f64], nodes: &[u16], row: &[f64], n: usize, least:
     requires by_index { (i : ℕ) → i < length nodes.now → get_or nodes.now i 0 * 2 + 1 < length points.now }
     ensures { result ≡ all_clear_of points.now nodes.now least row.now n }
 {
-    for i in 0..n {
+    (0..n).all(|i| {
         let p = geometry::point_at(row, i);
-        if geometry::front_distance(p, points, nodes) < least {
-            return false;
-        }
-    }
-    true
+        !(geometry::front_distance(p, points, nodes) < least)
+    })
 }

@@ -25,16 +25,14 @@ fn far_side(short: f64, row: &[f64], n: usize, a: Point, b: Point, bound: f64) -
         return false;
     }
     let mut far = true;
-    let mut i = 0usize;
-    while i < n {
+    for i in 0..n {
         let p = geometry::point_at(row, i);
         let apx = p.x - a.x;
         let apy = p.y - a.y;
         let t = float::clamp_unit((apx * abx + apy * aby) / length2);
         let qpx = p.x - (a.x + t * abx);
         let qpy = p.y - (a.y + t * aby);
-        far = far & (bound <= qpx * qpx + qpy * qpy);
-        i += 1;
+        far &= bound <= qpx * qpx + qpy * qpy;
     }
     far
 }
@@ -45,15 +43,10 @@ pub fn all_far(points: &[f64], nodes: &[u16], row: &[f64], n: usize, bound: f64)
     requires by_index { (i : ℕ) → i < length nodes.now → get_or nodes.now i 0 * 2 + 1 < length points.now }
     ensures { result ≡ all_far bound points.now nodes.now row.now n }
 {
-    let mut i = 0usize;
-    while i < nodes.len() {
+    (0..nodes.len()).all(|i| {
         let j = geometry::next_of(nodes.len(), i);
         let a = geometry::node_point(points, nodes, i);
         let b = geometry::node_point(points, nodes, j);
-        if !far_side(1e-18, row, n, a, b, bound) {
-            return false;
-        }
-        i += 1;
-    }
-    true
+        far_side(1e-18, row, n, a, b, bound)
+    })
 }

@@ -15,16 +15,9 @@ fn own_or_clear(own: bool, points: &[f64], nodes: &[u16], row: &[f64], n: usize,
     requires by_index { (i : ℕ) → i < length nodes.now → get_or nodes.now i 0 * 2 + 1 < length points.now }
     ensures { result ≡ (own || all_clear_of points.now nodes.now least row.now n) }
 {
-    if own {
-        return true;
-    }
     let bound = least * least * 1.000001;
-    if is_bound(bound, least) {
-        if all_far(points, nodes, row, n, bound) {
-            return true;
-        }
-    }
-    all_clear_of(points, nodes, row, n, least)
+    own || (is_bound(bound, least) && all_far(points, nodes, row, n, bound))
+        || all_clear_of(points, nodes, row, n, least)
 }
 
 // No new point is nearer than `least` to a front other than front `li`.
@@ -42,17 +35,15 @@ pub fn clear_of_fronts(
     requires by_index { (i : ℕ) → i < sum_of lengths.now → get_or front_nodes.now i 0 * 2 + 1 < length points.now }
     ensures { result ≡ all_clear_of_fronts points.now (cut lengths.now front_nodes.now) li least row.now n }
 {
-    let mut start = 0usize;
-    let mut other = 0usize;
-    while other < lengths.len() {
-        let len = wide(lengths[other]);
+    let mut start = 0;
+    for (other, len) in lengths.iter().enumerate() {
+        let len = wide(*len);
         let nodes = nodes_of(front_nodes, start, len);
         let own = other == li;
         if !own_or_clear(own, points, nodes, row, n, least) {
             return false;
         }
         start += len;
-        other += 1;
     }
     true
 }

@@ -10,10 +10,3 @@ mod quads;
 mod trial;
 
 pub use trial::try_row;
-
-// A row tried: it stands, or it is refused with a number.
-#[derive(Clone, Copy)]
-pub enum Tried {
-    Stands,
-    Refused(u32),
-}

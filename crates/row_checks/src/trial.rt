@@ -1,31 +1,30 @@
 // A row tried: the projections of a front's nodes, and the checks on them. Nothing lent is written here.
 ghost use Rattle.std.specs.Prelude.{◌≡◌, cond, [], ℕ, ◌%◌, ◌*◌, ◌+◌, ◌<◌, ◌≤◌, get_or, length, take};
 ghost use Rattle.geometry.specs.Rings.{node_ring};
-ghost use Rattle.row_checks.specs.Candidate as candidates;
 ghost use Rattle.rules.specs.Checks.{all_project, new_points};
 ghost use Rattle.rules.specs.Row.{rest_stands, row_number};
 ghost use Rattle.geometry.specs.Domain.{sum_of};
 ghost use Rattle.state.specs.Limits.{front_limit, quad_limit};
 ghost use Rattle.state.specs.State.{cut};
-ghost use Rattle.input.specs.Job.{job};
+ghost use Rattle.input.specs.Job.{job_of};
+ghost use Rattle.state.specs.Refusals.{refusal_of};
 
-use crate::Tried;
 use crate::checks::{all_inside, all_off_boundary};
 use crate::fronts::clear_of_fronts;
 use crate::projecting::project;
 use crate::quads::all_quads_stand;
 use crossing::is_simple;
-use input::Options;
+use input::Job;
 use rules::Projection;
-use state::{Front, front_at, nodes_of};
+use state::{Front, Refusal, front_at, nodes_of};
 
-// The projections of the nodes, from the front of `row`; refused with 22 when a node does not project. A side's length serves the nodes at both
-// of its ends.
-pub fn project_row(points: &[f64], nodes: &[u16], h: f64, row: &mut [f64]) -> Tried
+// The projections of the nodes, from the front of `row`; refused when a node does not project. A side's length serves the nodes at
+// both of its ends.
+pub fn project_row(points: &[f64], nodes: &[u16], h: f64, row: &mut [f64]) -> Result<(), Refusal>
     requires nodes_nonzero { (0 < length nodes.now) × (length nodes.now * 2 ≤ length row.old) }
     requires by_index { (i : ℕ) → i < length nodes.now → get_or nodes.now i 0 * 2 + 1 < length points.now }
-    ensures value { result ≡ candidates.tried (cond (all_project (node_ring points.now nodes.now) h) 0 22) }
-    ensures row_after { candidates.tried_number result ≡ 0 → take (length nodes.now * 2) row.new ≡ new_points (node_ring points.now nodes.now) h (length nodes.now) }
+    ensures value { refusal_of result ≡ cond (all_project (node_ring points.now nodes.now) h) 0 22 }
+    ensures row_after { refusal_of result ≡ 0 → take (length nodes.now * 2) row.new ≡ new_points (node_ring points.now nodes.now) h (length nodes.now) }
 {
     let n = nodes.len();
     let last = geometry::prev_of(n, 0);
@@ -37,23 +36,21 @@ pub fn project_row(points: &[f64], nodes: &[u16], h: f64, row: &mut [f64]) -> Tr
         let c = geometry::node_point(points, nodes, after);
         let l2 = geometry::side_length(b, c);
         let Projection::At(x, y) = project(a, b, c, l1, l2, h) else {
-            return Tried::Refused(22);
+            return Err(Refusal::Row);
         };
         geometry::put_point(row, i, x, y);
         a = b;
         b = c;
         l1 = l2;
     }
-    Tried::Stands
+    Ok(())
 }
 
 // The checks that follow the projection, on the new points `row` of front `li`. Each refuses with the same number, so the dear ones,
 // on the other fronts and on pairs of sides, come last.
+#[tactic(auto, using(state::proofs::Cutting::total_within, crate::proofs::Standing::in_order, crate::proofs::Standing::front_long))]
 fn rest_stands(
-    coords: &[f64],
-    loop_lengths: &[u16],
-    h: f64,
-    options: Options,
+    job: &Job,
     points: &[f64],
     front_nodes: &[u16],
     lengths: &[u16],
@@ -62,86 +59,57 @@ fn rest_stands(
     row: &[f64],
 ) -> bool
     requires li_in_bounds { (li < length lengths.now) × (front.start ≡ sum_of (take li lengths.now)) × (front.len ≡ get_or lengths.now li 0) × (0 < front.len) × (front.len * 2 ≤ length row.now) }
-    requires loop_lengths_in_bounds { (sum_of loop_lengths.now * 2 ≤ length coords.now) × (sum_of lengths.now ≤ length front_nodes.now) × (length points.now % 2 ≡ 0) }
+    requires loop_lengths_in_bounds { (sum_of job.now.loop_lengths.now * 2 ≤ length job.now.coords.now) × (sum_of lengths.now ≤ length front_nodes.now) × (length points.now % 2 ≡ 0) }
     requires by_index { (i : ℕ) → i < sum_of lengths.now → get_or front_nodes.now i 0 * 2 + 1 < length points.now }
-    ensures { result ≡ rest_stands (job coords.now loop_lengths.now h options) points.now (cut lengths.now front_nodes.now) li row.now }
+    ensures { result ≡ rest_stands (job_of job.now) points.now (cut lengths.now front_nodes.now) li row.now }
 {
-    let start = front.start;
+    let Job {
+        coords,
+        loop_lengths,
+        h,
+        options,
+    } = *job;
     let n = front.len;
-    if !all_inside(coords, loop_lengths, row, n) {
-        return false;
-    }
-    if !all_off_boundary(coords, loop_lengths, row, n, 0.05 * h) {
-        return false;
-    }
-    let old = nodes_of(front_nodes, start, n);
+    let old = nodes_of(front_nodes, front.start, n);
     let least = options.min_edge_fraction * h;
-    if !all_quads_stand(points, old, row, n, least, options.corner_limit) {
-        return false;
-    }
-    if !clear_of_fronts(
-        points,
-        front_nodes,
-        lengths,
-        li,
-        row,
-        n,
-        options.front_gap * h,
-    ) {
-        return false;
-    }
-    is_simple(row, n)
+    let gap = options.front_gap * h;
+    all_inside(coords, loop_lengths, row, n)
+        && all_off_boundary(coords, loop_lengths, row, n, 0.05 * h)
+        && all_quads_stand(points, old, row, n, least, options.corner_limit)
+        && clear_of_fronts(points, front_nodes, lengths, li, row, n, gap)
+        && is_simple(row, n)
 }
 
 // A row on front `li` tried, where `quads` quads are laid. When it stands its points are the first of `row`.
+#[tactic(auto, using(state::proofs::Cutting::total_within, crate::proofs::Standing::number_is, crate::proofs::Standing::front_long, std::proofs::lemmas::Bool::Decides::nat_tests))]
 pub fn try_row(
-    coords: &[f64],
-    loop_lengths: &[u16],
-    h: f64,
-    options: Options,
+    job: &Job,
     points: &[f64],
     front_nodes: &[u16],
     lengths: &[u16],
     quads: usize,
     li: usize,
     row: &mut [f64],
-) -> Tried
+) -> Result<(), Refusal>
     requires li_in_bounds { (li < length lengths.now) × (length lengths.now ≤ front_limit) × (quads ≤ quad_limit) }
-    requires loop_lengths_in_bounds { (sum_of loop_lengths.now * 2 ≤ length coords.now) × (sum_of lengths.now ≤ length front_nodes.now) × (get_or lengths.now li 0 * 2 ≤ length row.old) × (length points.now % 2 ≡ 0) }
+    requires loop_lengths_in_bounds { (sum_of job.now.loop_lengths.now * 2 ≤ length job.now.coords.now) × (sum_of lengths.now ≤ length front_nodes.now) × (get_or lengths.now li 0 * 2 ≤ length row.old) × (length points.now % 2 ≡ 0) }
     requires by_index { (i : ℕ) → i < sum_of lengths.now → get_or front_nodes.now i 0 * 2 + 1 < length points.now }
-    ensures value { result ≡ candidates.tried (row_number (job coords.now loop_lengths.now h options) points.now (cut lengths.now front_nodes.now) quads li) }
-    ensures row_after { candidates.tried_number result ≡ 0 → take (get_or lengths.now li 0 * 2) row.new ≡ new_points (node_ring points.now (get_or (cut lengths.now front_nodes.now) li [])) h (get_or lengths.now li 0) }
+    ensures value { refusal_of result ≡ row_number (job_of job.now) points.now (cut lengths.now front_nodes.now) quads li }
+    ensures row_after { refusal_of result ≡ 0 → take (get_or lengths.now li 0 * 2) row.new ≡ new_points (node_ring points.now (get_or (cut lengths.now front_nodes.now) li [])) job.now.h (get_or lengths.now li 0) }
 {
     let front = front_at(lengths, li);
-    let start = front.start;
     let n = front.len;
     if n < 6 {
-        return Tried::Refused(22);
+        return Err(Refusal::Row);
     }
-    let old = nodes_of(front_nodes, start, n);
-    let Tried::Stands = project_row(points, old, h, row) else {
-        return Tried::Refused(22);
-    };
+    let old = nodes_of(front_nodes, front.start, n);
+    project_row(points, old, job.h, row)?;
     let m = n * 2;
-    if !rest_stands(
-        coords,
-        loop_lengths,
-        h,
-        options,
-        points,
-        front_nodes,
-        lengths,
-        li,
-        front,
-        &row[..m],
-    ) {
-        return Tried::Refused(22);
+    if !rest_stands(job, points, front_nodes, lengths, li, front, &row[..m]) {
+        return Err(Refusal::Row);
     }
-    if 4096 < points.len() / 2 + n {
-        return Tried::Refused(21);
+    if 4096 < points.len() / 2 + n || 4096 < quads + n {
+        return Err(Refusal::Full);
     }
-    if 4096 < quads + n {
-        return Tried::Refused(21);
-    }
-    Tried::Stands
+    Ok(())
 }

@@ -52,6 +52,10 @@ module _ (b : Held) (sound : Sound b) (clean : Clean b) (li n : ℕ) (row : List
   unfolding reading
   old_length = cut-length (sizes_of b) b.front_nodes li room.front (fits b counted) n hn
 
+  -- where the front stands
+  pub within : {s : ℕ} → s ≡ start → s + n ≤ length b.front_nodes
+  within e = let w = total_within (sizes_of b) li room.front in let f = fits b counted in omega arith
+
   after : List ℕ
   unfolding reading
   after = sets b.front_nodes start (numbered b.counts.points n)

@@ -12,11 +12,10 @@ pub fn put_row_quads(quads: &mut [u16], at: usize, old: &[u16], first: usize)
     requires { (at + length old.now * 4 ≤ length quads.old) × (first + length old.now ≤ point_limit) }
     ensures { quads.new ≡ sets quads.old at (joined (map quad_nodes (row_quads old.now first (length old.now)))) }
 {
-    let n = old.len();
-    for i in 0..n {
-        let after = geometry::next_of(n, i);
+    for (i, node) in old.iter().enumerate() {
+        let after = geometry::next_of(old.len(), i);
         let c = narrow(first + after);
         let d = narrow(first + i);
-        put_quad(quads, at + i * 4, old[i], old[after], c, d);
+        put_quad(quads, at + i * 4, *node, old[after], c, d);
     }
 }

@@ -10,7 +10,8 @@ use lib.Ieee.{Float}
 use borrow.Author.Tests.{ne_eqb}
 use Rattle.float.specs.Helpers.{decimal}
 use Rattle.state.specs.declared.Counts.{Counts}
-use Rattle.state.specs.declared.Answer.TheVariants.{Done, Refused}
+use Rattle.std.specs.Prelude.{Result, Ok}
+use Rattle.state.specs.declared.refusal.Refusal.{Refusal}
 use Rattle.state.specs.Limits.{front_limit, front_node_limit, points_length, quads_length}
 use Rattle.state.specs.State.{State, Lengths, no_counts, zeros, padded, joined, counts_of, written}
 use Rattle.state.specs.Outcome.{Outcome, refused, gives}
@@ -19,11 +20,9 @@ use Rattle.state.proofs.Stores.{front-padded}
 use Rattle.input.specs.Job.{Job, input_number}
 use Rattle.input.proofs.Shape.{Shaped, accepted}
 use Rattle.sampling.specs.Sample.{sampled, on_job, sample_call}
-use Rattle.sampling.specs.declared.all_loops.Total.{Total}
-use Rattle.sampling.specs.declared.all_loops.Total.TheVariants.{Nodes}
 use Rattle.sampling.specs.Sampled.{Sampled, TotalIs, all_loops, of_loops}
 
-pub total_nodes : {coords : List Float} {loops : List ℕ} {h corner_margin : Float} {p p' : List Float} {n n' l l' : List ℕ} {total : Total} {k : ℕ} → total ≡ Nodes k
+pub total_nodes : {coords : List Float} {loops : List ℕ} {h corner_margin : Float} {p p' : List Float} {n n' l l' : List ℕ} {total : Result ℕ Refusal} {k : ℕ} → total ≡ Ok k
     → TotalIs coords loops h corner_margin p p' n n' l l' total → Sampled coords loops h corner_margin k p p' n n' l l'
 total_nodes e t = rw e at t
 
@@ -41,14 +40,14 @@ module _ (j : Job) (l : Lengths) where
 
   -- the buffers of a job refused by the input, and by a loop
   module _ (n : ℕ) (p : List Float) (q f m : List ℕ) (g : held p q f m no_counts ≡ zeros l) where
-    zeros-left : left (Refused n) (held p q f m no_counts) ≡ job_left l (refused n)
+    zeros-left : left (refused n) (held p q f m no_counts) ≡ job_left l (refused n)
     unfolding job_left
     zeros-left = rw g
 
-    pub input_refused : n ≡ input_number j l → (n ≡ 0 → ⊥) → left (Refused n) (held p q f m no_counts) ≡ sample_call j l
+    pub input_refused : n ≡ input_number j l → (n ≡ 0 → ⊥) → left (refused n) (held p q f m no_counts) ≡ sample_call j l
     input_refused e d = zeros-left ∙ sym (answer_is (refused n) n e (rw (ne_eqb n 0 d)))
 
-    pub loop_refused : 0 ≡ input_number j l → loops_of ≡ refused n → left (Refused n) (held p q f m no_counts) ≡ sample_call j l
+    pub loop_refused : 0 ≡ input_number j l → loops_of ≡ refused n → left (refused n) (held p q f m no_counts) ≡ sample_call j l
     loop_refused e f = zeros-left ∙ sym (answer_is (refused n) 0 e f)
 
   -- the loops written over p, n and m; p', q, n' and m' with zeros behind
@@ -91,6 +90,6 @@ module _ (j : Job) (l : Lengths) where
         half : (n l : ℕ) → n * 2 ≡ l → l / 2 ≡ n
         half n l e = omega arith
 
-    pub given : left (Done counts) (held p' q n' m' no_counts) ≡ sample_call j l
+    pub given : left (gives counts) (held p' q n' m' no_counts) ≡ sample_call j l
     unfolding job_left written joined
     given = rw (points_are_lem, quads_are_lem, nodes_are_lem, lengths_are_lem, counts_are) (sym (answer_is (gives (of_loops s.points s.fronts)) 0 e s.made))

@@ -22,8 +22,9 @@ use Rattle.planning.specs.Ring.{loop_ring}
 use Rattle.planning.specs.Plan.{planned}
 use Rattle.placing.specs.Placed.{placed}
 use Rattle.placing.specs.Loop.{sample_loop}
-use Rattle.placing.specs.declared.one_loop.Made.{Made}
-use Rattle.placing.specs.declared.one_loop.Made.TheVariants.{Nodes}
+use Rattle.std.specs.Prelude.{Result, Ok}
+use Rattle.state.specs.declared.refusal.Refusal.{Refusal}
+use Rattle.placing.specs.declared.one_loop.LoopNodes.{LoopNodes}
 use Rattle.placing.specs.Placing.{MadeIs, Written}
 use Rattle.sampling.specs.Sample.{with_loop, sample_from}
 use Rattle.sampling.specs.Sampled.{of_loops, all_loops, Sampled}
@@ -39,8 +40,8 @@ lengths_more fs f = map-append length fs (f ∷ [])
 
 -- ---- one loop's answer
 
-pub made_nodes : {h corner_margin : Float} {r : Ring} {before at p k : ℕ} {entry exit : List Float} {answer : Outcome (List Float)} {made : Made} → made ≡ Nodes p k
-    → MadeIs h corner_margin r before at entry exit answer made → (answer ≡ gives (placed h corner_margin r r.size)) × Written h corner_margin r before at p k entry exit
+pub made_nodes : {h corner_margin : Float} {r : Ring} {before at : ℕ} {entry exit : List Float} {answer : Outcome (List Float)} {made : Result LoopNodes Refusal} {m : LoopNodes} → made ≡ Ok m
+    → MadeIs h corner_margin r before at entry exit answer made → (answer ≡ gives (placed h corner_margin r r.size)) × Written h corner_margin r before at m.planned m.placed entry exit
 made_nodes e w = rw e at w
 
 -- ---- the slice of the coordinates that are left

@@ -1,12 +1,12 @@
 -- What the sampled loops leave in the lent buffers. Definitions only.
-use Rattle.std.specs.Prelude.{◌≡◌, true, List, [], map, ℕ, ◌*◌, ◌≤◌, length, Float}
+use Rattle.std.specs.Prelude.{Result, Ok, Err, ◌≡◌, true, List, [], map, ℕ, ◌*◌, ◌≤◌, length, Float}
 use Rattle.std.proofs.lemmas.List.Edits.{sets}
 use Rattle.geometry.specs.Domain.{rings}
 use Rattle.state.specs.Limits.{front_node_limit}
 use Rattle.state.specs.State.{State, joined}
 use Rattle.state.specs.Outcome.{Outcome, refused, gives}
-use Rattle.sampling.specs.declared.all_loops.Total.{Total}
-use Rattle.sampling.specs.declared.all_loops.Total.TheVariants.{Nodes, Refused}
+use Rattle.state.specs.declared.refusal.Refusal.{Refusal}
+use Rattle.state.specs.Refusals.{number}
 use Rattle.sampling.specs.Sample.{empty, sample_from}
 
 -- the state that has these points and fronts and nothing else
@@ -31,7 +31,7 @@ module _ (coords : List Float) (loops : List ℕ) (h corner_margin : Float) wher
     pub nodes_are : n' ≡ sets n 0 (joined fronts)
     pub lengths_are : l' ≡ sets l 0 (map length fronts)
 
-  -- document 01's number and values for each case of `Total`: the nodes of all loops, with what is written, or the number of the refusal
-  abbrev pub TotalIs : List Float → List Float → List ℕ → List ℕ → List ℕ → List ℕ → Total → Type 0
-  TotalIs p p' n n' l l' (Nodes k) = Sampled k p p' n n' l l'
-  TotalIs p p' n n' l l' (Refused k) = all_loops ≡ refused k
+  -- document 01's number and values for each case of the result: the nodes of all loops, with what is written, or the number of the refusal
+  abbrev pub TotalIs : List Float → List Float → List ℕ → List ℕ → List ℕ → List ℕ → Result ℕ Refusal → Type 0
+  TotalIs p p' n n' l l' (Ok k) = Sampled k p p' n n' l l'
+  TotalIs p p' n n' l l' (Err e) = all_loops ≡ refused (number e)

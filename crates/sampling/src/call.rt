@@ -1,64 +1,37 @@
 // The call `sample`.
-ghost use Rattle.std.specs.Prelude.{◌≡◌, length};
+ghost use Rattle.std.specs.Prelude.{◌≡◌};
 ghost use Rattle.state.specs.State.{no_counts};
-ghost use Rattle.state.specs.Call.{held, left, lengths_of};
-ghost use Rattle.input.specs.Job.{job};
+ghost use Rattle.state.specs.Call.{left};
+ghost use Rattle.state.specs.Lent.{Same, held_in, lengths_in};
+ghost use Rattle.state.specs.Refusals.{answered};
+ghost use Rattle.input.specs.Job.{job_of};
 ghost use Rattle.sampling.specs.Sample as samples;
 
-use crate::all_loops::{Total, sample_loops};
-use input::{Options, input_number};
-use state::{Answer, Counts, clear_all, clear_floats_from, clear_nodes, clear_nodes_from};
+use crate::all_loops::sample_loops;
+use input::Job;
+use state::{Counts, Lent, Refusal, clear_floats_from, clear_nodes, clear_nodes_from};
 
 // The call: numbers 1 to 10, or the sampled loops; whatever the buffers held. Each place is written once, zeros behind the loops.
-pub fn sample(
-    coords: &[f64],
-    loop_lengths: &[u16],
-    h: f64,
-    options: Options,
-    points: &mut [f64],
-    quads: &mut [u16],
-    front_nodes: &mut [u16],
-    front_lengths: &mut [u16],
-) -> Answer
-    ensures { left result (held points.new quads.new front_nodes.new front_lengths.new no_counts)
-        ≡ samples.sample_call (job coords.now loop_lengths.now h options)
-        (lengths_of (length points.old) (length quads.old) (length front_nodes.old) (length front_lengths.old)) }
+pub fn sample(job: &Job, lent: &mut Lent) -> Result<Counts, Refusal>
+    ensures same { Same lent.old lent.new }
+    ensures left { left (answered result) (held_in lent.new no_counts) ≡ samples.sample_call (job_of job.now) (lengths_in lent.old) }
 {
-    let number = input_number(
-        coords,
-        loop_lengths,
-        h,
-        options,
-        points.len(),
-        quads.len(),
-        front_nodes.len(),
-        front_lengths.len(),
-    );
-    if number != 0 {
-        clear_all(points, quads, front_nodes, front_lengths);
-        return Answer::Refused(number);
+    if let Err(refusal) = job.check(lent) {
+        lent.clear();
+        return Err(refusal);
     }
-    let total = sample_loops(
-        coords,
-        loop_lengths,
-        h,
-        options.corner_margin,
-        points,
-        front_nodes,
-        front_lengths,
-    );
-    match total {
-        Total::Refused(refused) => {
-            clear_all(points, quads, front_nodes, front_lengths);
-            Answer::Refused(refused)
+    match sample_loops(job, lent.points, lent.front_nodes, lent.front_lengths) {
+        Err(refusal) => {
+            lent.clear();
+            Err(refusal)
         }
-        Total::Nodes(nodes) => {
-            let fronts = loop_lengths.len();
-            clear_floats_from(points, nodes * 2);
-            clear_nodes(quads);
-            clear_nodes_from(front_nodes, nodes);
-            clear_nodes_from(front_lengths, fronts);
-            Answer::Done(Counts {
+        Ok(nodes) => {
+            let fronts = job.loop_lengths.len();
+            clear_floats_from(lent.points, nodes * 2);
+            clear_nodes(lent.quads);
+            clear_nodes_from(lent.front_nodes, nodes);
+            clear_nodes_from(lent.front_lengths, fronts);
+            Ok(Counts {
                 points: nodes,
                 quads: 0,
                 fronts,

@@ -1,5 +1,6 @@
 pub mod Pieces
 pub mod Literals
 pub mod Numbers
+pub mod Closed
 pub mod Turns
 pub mod Lengths

@@ -1,6 +1,7 @@
 -- The literals of the code that the crates below have no law for, by their bits. One law for each.
 use mathlib.Core.Path.{◌≡◌, refl}
-use lib.Ieee.{nan, binary64, div, of_bits, round}
+use mathlib.Core.Bool.{false}
+use lib.Ieee.{inf, nan, binary64, of_bits, round}
 use Rattle.float.specs.Helpers.{decimal}
 
 -- 1000.0
@@ -18,7 +19,12 @@ pub half_is : of_bits binary64 0x3FE0_0000_0000_0000 ≡ decimal 5 1
 unfolding round of_bits
 half_is = refl
 
--- 0.0 / 0.0
-pub nan_is : div binary64 (of_bits binary64 0) (of_bits binary64 0) ≡ nan
-unfolding div of_bits
+-- f64::INFINITY
+pub infinity_is : of_bits binary64 0x7FF0_0000_0000_0000 ≡ inf false
+unfolding of_bits
+infinity_is = refl
+
+-- f64::NAN
+pub nan_is : of_bits binary64 0x7FF8_0000_0000_0000 ≡ nan
+unfolding of_bits
 nan_is = refl

@@ -1,58 +1,24 @@
 -- One turn of each loop: a text of many parts is its first part and the others.
-use mathlib.Core.Path.{◌≡◌, refl}
-use mathlib.Core.Bool.{false}
-use mathlib.Core.List.{List, [], ◌∷◌, ◌++◌}
-use Prim.Native.Nat.{ℕ, suc, ◌+◌, ◌-◌, ◌*◌, ◌<◌, ◌≤◌}
+use mathlib.Core.Path.{◌≡◌, refl, sym, ◌∙◌}
+use mathlib.Core.List.{List, [], ◌∷◌, ◌++◌, map, append-nil}
+use Prim.Native.Nat.{ℕ, suc, ◌+◌, ◌-◌, ◌*◌, ◌/◌, ◌<◌, ◌≤◌}
 use native.Mathlib.Numerals.{add-one}
 use native.Mathlib.Omega.{arith}
-use lib.Ieee.{Float, inf}
-use lib.ListN.{length, get_or, take, drop, drop_of_length-le, length-take, length-drop}
-use lib.Seq.{drop-cons, drop-drop, get_or-take}
+use lib.Ieee.{Float}
+use lib.ListN.{length, get_or, take, drop, drop_of_length-le, length-take}
+use lib.Seq.{drop-cons}
 use Rattle.float.specs.Helpers.{lesser}
 use Rattle.geometry.specs.declared.Point.{Point}
 use Rattle.geometry.specs.Domain.{sum_of}
 use Rattle.geometry.specs.Rings.{point_at}
-use Rattle.state.specs.State.{quad_nodes, quads_of, cut, numbered}
-use Rattle.shapes.specs.Places.{place_text}
-use Rattle.shapes.specs.Shapes.{places_text, ring_text, path_text, loops_text, worst_of, step_of, tile_text, tiles_text, worst, quad_at, fronts_text, dot_text, dots_text}
+use Rattle.state.specs.State.{Quad, quad_nodes, quads_of, cut, numbered, joined}
+use Rattle.state.proofs.Reading.{numbers-quads_of, length-quads_of}
+use Rattle.state.proofs.Written.{quads_back}
+use Rattle.shapes.specs.Shapes.{ring_text, path_text, loops_text, worst_of, step_of, tile_text, tiles_text, worst, quad_at, fronts_text, dot_text, dots_text}
 
--- ---- numbers in turn
-
-numbered_next : (first n i : ℕ) → i < n → numbered (first + i) (n - i) ≡ (first + i) ∷ numbered (first + (i + 1)) (n - (i + 1))
-unfolding numbered
-numbered_next first n i h =
-    let e : n - i ≡ suc (n - (i + 1)) = omega arith in
-    let f : first + (i + 1) ≡ suc (first + i) = omega arith in
-    rw (e, f)
-
-numbered_end : (first n i : ℕ) → n ≤ i → numbered (first + i) (n - i) ≡ []
-unfolding numbered
-numbered_end first n i h = let e : n - i ≡ 0 = omega arith in rw e
-
--- ---- places and dots
+-- ---- dots
 
 module _ (p : List Float) where
-  pub places_next : (l : List ℕ) (i : ℕ) (v : Point) → i < length l → v ≡ point_at p (get_or l i 0) → places_text p (drop i l) ≡ place_text v ++ places_text p (drop (i + 1) l)
-  unfolding places_text
-  places_next l i v h e = rw (e, add-one i, drop-cons l i 0 h)
-
-  pub places_end : (l : List ℕ) (i : ℕ) → length l ≤ i → places_text p (drop i l) ≡ []
-  unfolding places_text
-  places_end l i h = rw (drop_of_length-le l h)
-
-  module _ (first n : ℕ) where
-    pub run_begin : places_text p (numbered first n) ≡ places_text p (numbered (first + 0) (n - 0))
-    run_begin = let e : n - 0 ≡ n = omega arith in let f : first + 0 ≡ first = omega arith in rw (e, f)
-
-    module _ (i : ℕ) where
-      pub run_next : (v : Point) → i < n → v ≡ point_at p (first + i) → places_text p (numbered (first + i) (n - i)) ≡ place_text v ++ places_text p (numbered (first + (i + 1)) (n - (i + 1)))
-      unfolding places_text
-      run_next v h e = rw (e, numbered_next first n i h)
-
-      pub run_end : n ≤ i → places_text p (numbered (first + i) (n - i)) ≡ []
-      unfolding places_text
-      run_end h = rw (numbered_end first n i h)
-
   pub dots_begin : (n : ℕ) → dots_text p (numbered 0 n) ≡ dots_text p (numbered 0 (n - 0))
   dots_begin n = let e : n - 0 ≡ n = omega arith in rw e
 
@@ -76,14 +42,14 @@ module _ (p : List Float) where
 
   -- ---- fronts
 
-  pub fronts_next : (l xs : List ℕ) (i start v len : ℕ) → i < length l → v ≡ get_or l i 0 → len ≡ v
-      → fronts_text p (cut (drop i l) (drop start xs)) ≡ path_text 102 (ring_text p (take len (drop start xs))) ++ fronts_text p (cut (drop (i + 1) l) (drop (start + v) xs))
+  pub fronts_next : (l xs : List ℕ) (i v : ℕ) → i < length l → v ≡ get_or l i 0
+      → fronts_text p (cut (drop i l) xs) ≡ path_text 102 (ring_text p (take v xs)) ++ fronts_text p (cut (drop (i + 1) l) (drop v xs))
   unfolding fronts_text cut
-  fronts_next l xs i start v len h e f = rw (f, e, add-one, drop-cons l i 0 h, drop-drop (get_or l i 0) start xs)
+  fronts_next l xs i v h e = rw (e, add-one, drop-cons l i 0 h)
 
-  pub fronts_end : (l xs : List ℕ) (i start : ℕ) → length l ≤ i → fronts_text p (cut (drop i l) (drop start xs)) ≡ []
+  pub fronts_end : (l xs : List ℕ) (i : ℕ) → length l ≤ i → fronts_text p (cut (drop i l) xs) ≡ []
   unfolding fronts_text cut
-  fronts_end l xs i start h = rw (drop_of_length-le l h)
+  fronts_end l xs i h = rw (drop_of_length-le l h)
 
 -- how many nodes are left
 pub sum-next : (l : List ℕ) (i v : ℕ) → i < length l → v ≡ get_or l i 0 → sum_of (drop i l) ≡ v + sum_of (drop (i + 1) l)
@@ -91,10 +57,6 @@ unfolding sum_of
 sum-next l i v h e = rw (e, add-one, drop-cons l i 0 h)
 
 -- ---- quads
-
--- four numbers and the quad of them
-quad_taken : (xs : List ℕ) → quad_at (take 4 xs) ≡ quad_at xs
-quad_taken xs = rw (get_or-take 4 xs 0 0 (omega arith), get_or-take 4 xs 1 0 (omega arith), get_or-take 4 xs 2 0 (omega arith), get_or-take 4 xs 3 0 (omega arith))
 
 pub four_all : (l : List ℕ) → length l ≡ 4 → quad_nodes (quad_at l) ≡ l
 four_all [] h = absurd (none h)
@@ -123,42 +85,43 @@ pub tile_is : (limit : Float) (p : List Float) (l : List ℕ) (v : Float) (k : �
 unfolding tile_text
 tile_is limit p l v k h e f = rw (f, e, four_all l h)
 
-quads_next : (l : List ℕ) (n i four : ℕ) → i < n → four ≡ 4 → quads_of (n - i) (drop (i * 4) l) ≡ quad_at (take four (drop (i * 4) l)) ∷ quads_of (n - (i + 1)) (drop ((i + 1) * 4) l)
+-- all quads of a list
+abbrev pub quads_in : List ℕ → List Quad
+quads_in xs = quads_of (length xs / 4) xs
+
+fours : (q : Quad) (ys : List ℕ) → quads_in (quad_nodes q ++ ys) ≡ q ∷ quads_in ys
 unfolding quads_of
-quads_next l n i four h q =
-    let e : n - i ≡ suc (n - (i + 1)) = omega arith in
-    let k : (i + 1) * 4 ≡ i * 4 + 4 = omega arith in
-    rw (q, quad_taken (drop (i * 4) l), e, k, ← drop-drop 4 (i * 4) l)
+fours q ys = let k : suc (suc (suc (suc (length ys)))) / 4 ≡ suc (length ys / 4) = omega arith in rw k
 
-quads_end : (l : List ℕ) (n i : ℕ) → n ≤ i → quads_of (n - i) (drop (i * 4) l) ≡ []
-unfolding quads_of
-quads_end l n i h = let e : n - i ≡ 0 = omega arith in rw e
+module _ (l : List ℕ) (n : ℕ) (h : n * 4 ≤ length l) where
+  pub quads_begin : quads_in (take (n * 4) l) ≡ quads_of n l
+  quads_begin =
+      let qs : List Quad = quads_of n l in
+      let k : length (take (n * 4) l) / 4 ≡ length qs = rw (length-take, length-quads_of n l) (omega arith) in
+      let e : take (n * 4) l ≡ joined (map quad_nodes qs) ++ [] = sym (append-nil _ ∙ numbers-quads_of n l h) in
+      rw (k, e) (quads_back qs [])
 
-pub four_long : (l : List ℕ) (n i four : ℕ) → i < n → n * 4 ≤ length l → four ≡ 4 → length (take four (drop (i * 4) l)) ≡ 4
-four_long l n i four h g q = rw (q, length-take, length-drop) (omega arith)
+module _ (l x ys : List ℕ) (e : l ≡ x ++ ys) (four : length x ≡ 4) where
+  quads_more : quads_in l ≡ quad_at x ∷ quads_in ys
+  quads_more = rw (e, ← four_all x four) (fours (quad_at x) ys)
 
-pub tiles_begin : (limit : Float) (p : List Float) (l : List ℕ) (n : ℕ) → tiles_text limit p (quads_of n l) ≡ tiles_text limit p (quads_of (n - 0) (drop (0 * 4) l))
-tiles_begin limit p l n = let e : n - 0 ≡ n = omega arith in rw e
-
-module _ (limit : Float) (p : List Float) (l : List ℕ) (n i : ℕ) where
-  pub tiles_next : (four : ℕ) → i < n → four ≡ 4
-      → tiles_text limit p (quads_of (n - i) (drop (i * 4) l)) ≡ tile_text limit p (quad_at (take four (drop (i * 4) l))) ++ tiles_text limit p (quads_of (n - (i + 1)) (drop ((i + 1) * 4) l))
+  pub tiles_next : (limit : Float) (p : List Float) → tiles_text limit p (quads_in l) ≡ tile_text limit p (quad_at x) ++ tiles_text limit p (quads_in ys)
   unfolding tiles_text
-  tiles_next four h q = rw (quads_next l n i four h q)
+  tiles_next limit p = rw quads_more
 
-  pub tiles_end : n ≤ i → tiles_text limit p (quads_of (n - i) (drop (i * 4) l)) ≡ []
+  pub worst-next : (p : List Float) (least v less : Float) → v ≡ worst_of p (quad_at x) → less ≡ lesser least v → worst least p (quads_in l) ≡ worst less p (quads_in ys)
+  unfolding worst
+  worst-next p least v less e f = rw (f, e, quads_more)
+
+module _ (l : List ℕ) (few : length l < 4) where
+  quads_none : quads_in l ≡ []
+  unfolding quads_of
+  quads_none = let k : length l / 4 ≡ 0 = omega arith in rw k
+
+  pub tiles_end : (limit : Float) (p : List Float) → tiles_text limit p (quads_in l) ≡ []
   unfolding tiles_text
-  tiles_end h = rw (quads_end l n i h)
+  tiles_end limit p = rw quads_none
 
-pub worst_begin : (p : List Float) (l : List ℕ) (n : ℕ) (least : Float) → least ≡ inf false → worst least p (quads_of (n - 0) (drop (0 * 4) l)) ≡ worst (inf false) p (quads_of n l)
-worst_begin p l n least h = let e : n - 0 ≡ n = omega arith in rw (h, e)
-
-module _ (p : List Float) (l : List ℕ) (n i : ℕ) (least : Float) where
-  pub worst-next : (four : ℕ) (v less : Float) → i < n → four ≡ 4 → v ≡ worst_of p (quad_at (take four (drop (i * 4) l))) → less ≡ lesser least v
-      → worst least p (quads_of (n - i) (drop (i * 4) l)) ≡ worst less p (quads_of (n - (i + 1)) (drop ((i + 1) * 4) l))
+  pub worst_end : (p : List Float) (least : Float) → worst least p (quads_in l) ≡ least
   unfolding worst
-  worst-next four v less h q e f = rw (f, e, quads_next l n i four h q)
-
-  pub worst_end : n ≤ i → worst least p (quads_of (n - i) (drop (i * 4) l)) ≡ least
-  unfolding worst
-  worst_end h = rw (quads_end l n i h)
+  worst_end p least = rw quads_none

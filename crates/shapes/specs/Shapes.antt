@@ -20,6 +20,14 @@ places_text points (n ∷ ns) = place_text (point_at points n) ++ places_text po
 unfoldable pub ring_text : List Float → List ℕ → List ℕ
 ring_text points ns = joined (ascii "M" ∷ places_text points ns ∷ ascii "Z" ∷ [])
 
+-- the same of points
+unfoldable pub rest_text : List Point → List ℕ
+rest_text [] = ascii "Z"
+rest_text (p ∷ ps) = place_text p ++ rest_text ps
+
+unfoldable pub line_text : List Point → List ℕ
+line_text ps = ascii "M" ++ rest_text ps
+
 -- a shape of a class, which is a letter
 unfoldable pub open_text : ℕ → List ℕ
 open_text class = joined (ascii "<path class=\"" ∷ (class ∷ []) ∷ ascii "\" d=\"" ∷ [])

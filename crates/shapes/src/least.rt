@@ -23,13 +23,9 @@ pub fn worst(points: &[f64], quads: &[u16], n: usize) -> f64
     requires { n * 4 ≤ length quads.now }
     ensures { result ≡ shapes.worst (inf false) points.now (quads_of n quads.now) }
 {
-    let mut least = 1.0 / 0.0;
-    let mut i = 0usize;
-    while i < n {
-        let start = i * 4;
-        let end = start + 4;
-        least = float::lesser(least, worst_of(points, &quads[start..end]));
-        i += 1;
+    let mut least = f64::INFINITY;
+    for nodes in quads[..n * 4].chunks_exact(4) {
+        least = float::lesser(least, worst_of(points, nodes));
     }
     least
 }

@@ -1,10 +1,10 @@
 // Coordinates as SVG has them: thousandths, by whole-number arithmetic.
 ghost use Rattle.std.specs.Prelude.{◌≡◌};
-ghost use Rattle.text.specs.Putting.{Put, Room};
+ghost use Rattle.text.specs.Writing.{Fits, Same, Wrote};
 ghost use Rattle.shapes.specs.Places as places;
 
 use geometry::Point;
-use text::{put_byte, put_decimal};
+use text::Writer;
 
 fn thousandths(x: f64) -> u64
     ensures { result ≡ places.thousandths x }
@@ -12,61 +12,62 @@ fn thousandths(x: f64) -> u64
     float::round_away(float::absolute(x) * 1000.0) as u64
 }
 
-fn put_sign(out: &mut [u8], at: usize, minus: bool, n: u64) -> usize
-    requires { Room out.old at (places.sign_text minus n) }
-    ensures { Put out.old at (places.sign_text minus n) out.new result }
+fn put_sign(w: &mut Writer, minus: bool, n: u64)
+    requires { Fits w.old (places.sign_text minus n) }
+    ensures put { Wrote w.old (places.sign_text minus n) w.new }
+    ensures same { Same w.old w.new }
 {
-    if minus {
-        if n != 0 {
-            return put_byte(out, at, b'-');
-        }
-        return at;
+    if minus && n != 0 {
+        w.byte(b'-');
     }
-    at
 }
 
-fn put_low(out: &mut [u8], at: usize, n: u64) -> usize
-    requires { Room out.old at (places.low_digits n) }
-    ensures { Put out.old at (places.low_digits n) out.new result }
+fn put_low(w: &mut Writer, n: u64)
+    requires { Fits w.old (places.low_digits n) }
+    ensures put { Wrote w.old (places.low_digits n) w.new }
+    ensures same { Same w.old w.new }
 {
-    let second = put_byte(out, at, (48 + n / 100 % 10) as u8);
-    let third = put_byte(out, second, (48 + n / 10 % 10) as u8);
-    put_byte(out, third, (48 + n % 10) as u8)
+    w.byte((48 + n / 100 % 10) as u8);
+    w.byte((48 + n / 10 % 10) as u8);
+    w.byte((48 + n % 10) as u8);
 }
 
 // `n` thousandths.
-fn put_fixed(out: &mut [u8], at: usize, minus: bool, n: u64) -> usize
-    requires { Room out.old at (places.fixed_text minus n) }
-    ensures { Put out.old at (places.fixed_text minus n) out.new result }
+fn put_fixed(w: &mut Writer, minus: bool, n: u64)
+    requires { Fits w.old (places.fixed_text minus n) }
+    ensures put { Wrote w.old (places.fixed_text minus n) w.new }
+    ensures same { Same w.old w.new }
 {
-    let whole = put_sign(out, at, minus, n);
-    let point = put_decimal(out, whole, n / 1000);
-    let low = put_byte(out, point, b'.');
-    put_low(out, low, n)
+    put_sign(w, minus, n);
+    w.decimal(n / 1000);
+    w.byte(b'.');
+    put_low(w, n);
 }
 
-pub fn put_across(out: &mut [u8], at: usize, x: f64) -> usize
-    requires { Room out.old at (places.across_text x) }
-    ensures { Put out.old at (places.across_text x) out.new result }
+pub fn put_across(w: &mut Writer, x: f64)
+    requires { Fits w.old (places.across_text x) }
+    ensures put { Wrote w.old (places.across_text x) w.new }
+    ensures same { Same w.old w.new }
 {
     let n = thousandths(x);
-    put_fixed(out, at, x < 0.0, n)
+    put_fixed(w, x < 0.0, n);
 }
 
-pub fn put_up(out: &mut [u8], at: usize, y: f64) -> usize
-    requires { Room out.old at (places.up_text y) }
-    ensures { Put out.old at (places.up_text y) out.new result }
+pub fn put_up(w: &mut Writer, y: f64)
+    requires { Fits w.old (places.up_text y) }
+    ensures put { Wrote w.old (places.up_text y) w.new }
+    ensures same { Same w.old w.new }
 {
-    let n = thousandths(y);
-    put_fixed(out, at, 0.0 < y, n)
+    put_across(w, -y);
 }
 
-pub fn put_place(out: &mut [u8], at: usize, p: Point) -> usize
-    requires { Room out.old at (places.place_text p) }
-    ensures { Put out.old at (places.place_text p) out.new result }
+pub fn put_place(w: &mut Writer, p: Point)
+    requires { Fits w.old (places.place_text p) }
+    ensures put { Wrote w.old (places.place_text p) w.new }
+    ensures same { Same w.old w.new }
 {
-    let first = put_across(out, at, p.x);
-    let second = put_byte(out, first, b' ');
-    let last = put_up(out, second, p.y);
-    put_byte(out, last, b' ')
+    put_across(w, p.x);
+    w.byte(b' ');
+    put_up(w, p.y);
+    w.byte(b' ');
 }

@@ -1,6 +1,7 @@
 -- The text of a state that is shown, and of one that is not.
 use Prim.Native.Nat.{ℕ}
-use mathlib.Core.Path.{◌≡◌, refl}
+use mathlib.Core.Path.{◌≡◌, refl, sym}
+use native.Mathlib.Nat.{add-zero}
 use mathlib.Core.Bool.{true, false}
 use mathlib.Core.List.{List}
 use Rattle.state.specs.State.{Held, reading}
@@ -13,6 +14,6 @@ pub stands : (b : Held) → wrong_state b ≡ false → state_text (reading b) �
 unfolding shown
 stands b e = rw e
 
-pub unshown : (b : Held) (out : List ℕ) → wrong_state b ≡ true → Put out 0 (shown b) out 0
+pub unshown : (b : Held) (out : List ℕ) (at : ℕ) → wrong_state b ≡ true → Put out at (shown b) out at
 unfolding shown
-unshown b out e = rw e (record { bytes = refl; place = refl })
+unshown b out at e = rw e (record { bytes = refl; place = sym (add-zero at) })

@@ -1,14 +1,16 @@
 // What is printed beside the text of `pave_text`: a line, a refusal, and a state. Output that cannot be written is lost.
 #![tactic(auto)]
 
-ghost use Rattle.std.specs.Prelude.{◌≤◌, length};
-ghost use Rattle.state.specs.Call.{held};
-ghost use Rattle.text.specs.Putting.{Put};
+ghost use Rattle.std.specs.Prelude.{◌≡◌, ◌+◌, ◌≤◌, length};
+ghost use Rattle.state.specs.Call as buffers;
+ghost use Rattle.state.specs.Lent.{held_in, lengths_in};
+ghost use Rattle.text.specs.Writing.{Same, Wrote};
 ghost use Rattle.answer_text.specs.Fits.{text_limit};
 ghost use Rattle.showing.specs.Shown.{shown};
 
 use answer_text::put_state;
-use state::{Counts, wrong_state};
+use state::{Counts, Lent};
+use text::Writer;
 
 pub fn line(rt: &impl Print, text: &[u8]) {
     let _ = rt.write_all(text);
@@ -17,8 +19,8 @@ pub fn line(rt: &impl Print, text: &[u8]) {
 
 // The first `n` bytes of a buffer.
 pub fn show_text(rt: &impl Print, out: &[u8], n: usize) {
-    if n <= out.len() {
-        let _ = rt.write_all(&out[..n]);
+    if let Some(text) = out.get(..n) {
+        let _ = rt.write_all(text);
     }
 }
 
@@ -27,32 +29,27 @@ pub fn show_refused(rt: &impl Print, number: u32) {
 }
 
 // The text of a state, and nothing for one that number 25 refuses, whatever the buffers hold.
-fn put_shown(
-    out: &mut [u8],
-    points: &[f64; 8192],
-    quads: &[u16; 16384],
-    front_nodes: &[u16; 2048],
-    front_lengths: &[u16; 16],
-    counts: Counts,
-) -> usize
-    requires { text_limit ≤ length out.old }
-    ensures { Put out.old 0 (shown (held points.now quads.now front_nodes.now front_lengths.now counts)) out.new result }
+fn put_shown(w: &mut Writer, lent: &Lent, counts: Counts)
+    requires room { w.old.at + text_limit ≤ length w.old.out.now }
+    requires lengths { lengths_in lent.now ≡ buffers.lent }
+    ensures put { Wrote w.old (shown (held_in lent.now counts)) w.new }
+    ensures same { Same w.old w.new }
 {
-    if wrong_state(points, quads, front_nodes, front_lengths, counts) {
-        return 0;
+    if lent.is_wrong(counts) {
+        return;
     }
-    put_state(out, 0, points, quads, front_nodes, front_lengths, counts)
+    put_state(w, lent, counts);
 }
 
-pub fn show_state(
-    rt: &impl Print,
-    points: &[f64; 8192],
-    quads: &[u16; 16384],
-    front_nodes: &[u16; 2048],
-    front_lengths: &[u16; 16],
-    counts: Counts,
-) {
+pub fn show_state(rt: &impl Print, lent: &Lent, counts: Counts)
+    requires { lengths_in lent.now ≡ buffers.lent }
+{
     let mut out = standard::answer_buffer();
-    let n = put_shown(&mut out, points, quads, front_nodes, front_lengths, counts);
+    let mut w = Writer {
+        out: &mut out,
+        at: 0,
+    };
+    put_shown(&mut w, lent, counts);
+    let n = w.at;
     show_text(rt, &out, n);
 }

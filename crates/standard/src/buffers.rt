@@ -2,37 +2,43 @@
 // stands in the program itself, the prover counts to its length, which took most of a program's check.
 ghost use Rattle.std.specs.Prelude.{◌≡◌, length};
 
+fn buffer<const N: usize>() -> [u8; N]
+    ensures { N ≡ length result }
+{
+    [0; N]
+}
+
 // One byte more than a job's text may have: a longer one is cut there, and is unreadable all the same.
 pub fn input_buffer() -> [u8; 65537]
     ensures { 65537 ≡ length result }
 {
-    [0; 65537]
+    buffer()
 }
 
 // What `pave_text` asks for.
 pub fn answer_buffer() -> [u8; 270336]
     ensures { 270336 ≡ length result }
 {
-    [0; 270336]
+    buffer()
 }
 
 // What `draw_text` asks for.
 pub fn picture_buffer() -> [u8; 1638400]
     ensures { 1638400 ≡ length result }
 {
-    [0; 1638400]
+    buffer()
 }
 
 // One byte more than `recheck` asks for, since no list is as long as that: a longer text is cut there, and is unreadable all the same.
 pub fn list_input() -> [u8; 286721]
     ensures { 286721 ≡ length result }
 {
-    [0; 286721]
+    buffer()
 }
 
 // What `recheck` asks for.
 pub fn list_buffer() -> [u8; 286720]
     ensures { 286720 ≡ length result }
 {
-    [0; 286720]
+    buffer()
 }

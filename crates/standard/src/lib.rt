@@ -3,65 +3,43 @@
 
 mod buffers;
 
-ghost use Rattle.std.specs.Prelude.{◌≡◌, ◌<◌, ◌≤◌, length, take, drop};
+ghost use Rattle.std.specs.Prelude.{◌≡◌, ◌<◌, ◌≤◌, length, take, drop, IfOk};
 ghost use Rattle.std.specs.Io.KnownBytes.{Consumes, IsAtEnd};
-ghost use Rattle.standard.specs.Input.{IfBytes, Reached};
 
 pub use buffers::{answer_buffer, input_buffer, list_buffer, list_input, picture_buffer};
+use std::io;
 use std::io::Read;
 
-// How many bytes came before the input's end or the buffer's, or a read that failed.
-#[derive(Clone, Copy)]
-pub enum Input {
-    Bytes(usize),
-    Failed,
-}
-
-// One read.
-fn read_piece<R: Read>(from: &mut R, part: &mut [u8]) -> Input
-    ensures reached { Reached result 0 (length part.old) (length part.new) }
-    ensures bytes { IfBytes result (λ n. Consumes (R.remaining from.old) (R.remaining from.new) (take n part.new)) }
-    ensures end { IfBytes result (λ n. n ≡ 0 → 0 < length part.new → IsAtEnd (R.remaining from.new)) }
-{
-    match from.read(part) {
-        Ok(n) => Input::Bytes(n),
-        Err(_) => Input::Failed,
-    }
-}
-
 // One read behind the first `done` bytes: how many there are then.
-fn read_behind<R: Read>(from: &mut R, buf: &mut [u8], done: usize) -> Input
+fn read_behind<R: Read>(from: &mut R, buf: &mut [u8], done: usize) -> io::Result<usize>
     requires { done ≤ length buf.old }
-    ensures reached { Reached result done (length buf.old) (length buf.new) }
+    ensures reached { IfOk result (λ n. (done ≤ n) × (n ≤ length buf.new)) }
     ensures front { take done buf.new ≡ take done buf.old }
-    ensures bytes { IfBytes result (λ n. Consumes (R.remaining from.old) (R.remaining from.new) (drop done (take n buf.new))) }
-    ensures end { IfBytes result (λ n. n ≡ done → done < length buf.new → IsAtEnd (R.remaining from.new)) }
+    ensures bytes { IfOk result (λ n. Consumes (R.remaining from.old) (R.remaining from.new) (drop done (take n buf.new))) }
+    ensures end { IfOk result (λ n. n ≡ done → done < length buf.new → IsAtEnd (R.remaining from.new)) }
 {
-    let Input::Bytes(n) = read_piece(from, &mut buf[done..]) else {
-        return Input::Failed;
-    };
-    Input::Bytes(done + n)
+    Ok(done + from.read(&mut buf[done..])?)
 }
 
 // Reads until the input ends, the buffer is full, or a read fails. A slow writer's pieces come one after the other.
-pub fn read_input<R: Read>(from: &mut R, buf: &mut [u8]) -> Input
-    ensures reached { Reached result 0 (length buf.old) (length buf.new) }
+pub fn read_input<R: Read>(from: &mut R, buf: &mut [u8]) -> io::Result<usize>
+    ensures long { length buf.new ≡ length buf.old }
+    ensures within { IfOk result (λ n. n ≤ length buf.new) }
 
     // Where it is known what the reader has: the buffer begins with it, and holds all of it unless it is full.
-    ensures bytes { IfBytes result (λ n. Consumes (R.remaining from.old) (R.remaining from.new) (take n buf.new)) }
-    ensures end { IfBytes result (λ n. n < length buf.new → IsAtEnd (R.remaining from.new)) }
+    ensures bytes { IfOk result (λ n. Consumes (R.remaining from.old) (R.remaining from.new) (take n buf.new)) }
+    ensures end { IfOk result (λ n. n < length buf.new → IsAtEnd (R.remaining from.new)) }
 {
     let mut done = 0usize;
+    // as far as a read came, which no index counts
     while done < buf.len() {
-        let Input::Bytes(more) = read_behind(from, buf, done) else {
-            return Input::Failed;
-        };
+        let more = read_behind(from, buf, done)?;
         if more == done {
-            return Input::Bytes(done);
+            break;
         }
         done = more;
     }
-    Input::Bytes(done)
+    Ok(done)
 }
 
 // Writes all of a text, or says on standard error that it is cut.

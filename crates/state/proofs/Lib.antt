@@ -12,4 +12,6 @@ pub mod Repeating
 pub mod Sounding
 pub mod Fitting
 pub mod Zeros
+pub mod Refusing
 pub mod Calling
+pub mod Lending

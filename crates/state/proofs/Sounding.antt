@@ -1,10 +1,10 @@
 -- Number 25: the definition's tests on the state that was read are the code's on the buffers; and what buffers have that it does not refuse.
-use mathlib.Core.Path.{◌≡◌, refl, sym, ◌∙◌, ap}
+use mathlib.Core.Path.{◌≡◌, refl, ap}
 use mathlib.Core.Bool.{Bool, true, false, not, ◌||◌}
-use mathlib.Core.List.{List, ◌++◌}
-use Prim.Native.Nat.{ℕ, ◌+◌, ◌-◌, ◌*◌, ◌/◌, ◌<◌, ◌≤◌}
+use mathlib.Core.List.{List}
+use Prim.Native.Nat.{ℕ, ◌+◌, ◌*◌, ◌<◌, ◌≤◌}
 use native.Mathlib.Omega.{arith}
-use borrow.Author.Tests.{lt-ltb, le-ltb, eq-eqb, ne_eqb, ltb-true, ltb-false, eqb-true, not-false}
+use borrow.Author.Tests.{ltb-false, eqb-true, not-false}
 use lib.Dec.{eqb, ltb}
 use lib.Ieee.{Float}
 use lib.ListN.{length, get_or, take}
@@ -22,34 +22,10 @@ use Rattle.state.specs.Sound.{Sound, sizes_of}
 use Rattle.state.proofs.Repeating.{all_below, from_both}
 use Rattle.state.proofs.Reading.{Counted, nodes-read, quads_read, quad-nodes-read, front-nodes-read}
 
--- six times b exceeds a: compared without a product
-sixth : (a b : ℕ) → ltb (a / 6) b ≡ ltb a (6 * b)
-sixth a b = go (ltb (a / 6) b) refl
-  where
-    go : (t : Bool) → ltb (a / 6) b ≡ t → t ≡ ltb a (6 * b)
-    go true e = let h = ltb-true (a / 6) b e in sym (lt-ltb a (6 * b) (omega arith))
-    go false e = let h = ltb-false (a / 6) b e in sym (le-ltb a (6 * b) (omega arith))
-
--- the counts that do not fit together, by the code's tests: of q quads r are the rows' and k the core's, l were laid, in s rows
+-- the counts that do not fit together: of q quads r are the rows' and k the core's, l were laid, in s rows
 module _ (q r k l s : ℕ) where
   abbrev sums : Bool
   sums = not (eqb (r + k) q) || ltb q l || ltb r (6 * s)
-
-  pub too_many : q < r → true ≡ sums
-  too_many h = rw (ne_eqb (r + k) q (λ e. omega arith))
-
-  pub unequal : r ≤ q → (k ≡ q - r → ⊥) → true ≡ sums
-  unequal h f = rw (ne_eqb (r + k) q (λ e. f (omega arith)))
-
-  module _ (h : r ≤ q) (e : k ≡ q - r) where
-    equal : eqb (r + k) q ≡ true
-    equal = eq-eqb (r + k) q (omega arith)
-
-    pub laid_over : q < l → true ≡ sums
-    laid_over g = rw (equal, lt-ltb q l g)
-
-    pub rounds_decide : l ≤ q → ltb (r / 6) s ≡ sums
-    rounds_decide g = rw (equal, le-ltb q l g) (sixth r s)
 
 or_group : (a b c d e f : Bool) → (a || b || c || d || e || f) ≡ (a || b || c || (d || e || f))
 or_group true b c d e f = refl
@@ -88,24 +64,27 @@ module _ (b : Held) (c : Counted b) where
   abbrev part-nodes : List ℕ
   part-nodes = take (sum_of (sizes_of b)) b.front_nodes
 
+  -- a node number of the quads or of the fronts is not below the points, or a front node is repeated
+  abbrev wrong_part : Bool
+  wrong_part = some_from b.counts.points (take (b.counts.quads * 4) b.quads) || some_from b.counts.points part-nodes || repeated part-nodes
+
   pub values_agree : wrong_values (reading b)
-      ≡ (some_from b.counts.points (take (b.counts.quads * 4) b.quads ++ part-nodes) || repeated part-nodes
-      || wrong_coordinate (decimal 1000000000 0) (take (b.counts.points * 2) b.points)
+      ≡ (wrong_part || wrong_coordinate (decimal 1000000000 0) (take (b.counts.points * 2) b.points)
       || (not (eqb (b.counts.row_quads + b.counts.core_quads) b.counts.quads) || ltb b.counts.quads b.counts.laid || ltb b.counts.row_quads (6 * b.counts.row_rounds)))
   unfolding wrong_values
   values_agree =
-      rw (nodes-read b c, quad-nodes-read b c, front-nodes-read b c, quads_read b c, others_read.0, others_read.1, others_read.2, others_read.3, others_read.4)
-      (or_group (some_from b.counts.points (take (b.counts.quads * 4) b.quads ++ part-nodes)) (repeated part-nodes)
+      rw (nodes-read b c, quad-nodes-read b c, front-nodes-read b c, quads_read b c, others_read.0, others_read.1, others_read.2, others_read.3, others_read.4, from_both b.counts.points (take (b.counts.quads * 4) b.quads) part-nodes)
+      (or_group (some_from b.counts.points (take (b.counts.quads * 4) b.quads) || some_from b.counts.points part-nodes) (repeated part-nodes)
       (wrong_coordinate (decimal 1000000000 0) (take (b.counts.points * 2) b.points)) (not (eqb (b.counts.row_quads + b.counts.core_quads) b.counts.quads))
       (ltb b.counts.quads b.counts.laid) (ltb b.counts.row_quads (6 * b.counts.row_rounds)))
 
   -- ---- left at the first test that is true
 
-  pub by_nodes : (t : Bool) → t ≡ (some_from b.counts.points (take (b.counts.quads * 4) b.quads ++ part-nodes) || repeated part-nodes) → t ≡ true → wrong_counts b ≡ false → true ≡ wrong_state b
+  pub by_nodes : (t : Bool) → t ≡ wrong_part → t ≡ true → wrong_counts b ≡ false → true ≡ wrong_state b
   unfolding wrong_state
   by_nodes t e h w = rw (w, values_agree, ← e, h)
 
-  module _ (t : Bool) (e : t ≡ (some_from b.counts.points (take (b.counts.quads * 4) b.quads ++ part-nodes) || repeated part-nodes)) (h : t ≡ false) (w : wrong_counts b ≡ false) where
+  module _ (t : Bool) (e : t ≡ wrong_part) (h : t ≡ false) (w : wrong_counts b ≡ false) where
     pub by_coordinate : (u : Bool) → u ≡ wrong_coordinate (decimal 1000000000 0) (take (b.counts.points * 2) b.points) → u ≡ true → true ≡ wrong_state b
     unfolding wrong_state
     by_coordinate u f g = rw (w, values_agree, ← e, h, ← f, g)
@@ -131,15 +110,15 @@ sound b l w =
     let c = counted b l w1.0 in
     let v = rw (values_agree b c) at w1.1 in
     let total = sum_of (sizes_of b) in
-    let A : Bool = some_from b.counts.points (take (b.counts.quads * 4) b.quads ++ take total b.front_nodes) in
+    let P : Bool = some_from b.counts.points (take (b.counts.quads * 4) b.quads) in
+    let A : Bool = some_from b.counts.points (take total b.front_nodes) in
     let B : Bool = repeated (take total b.front_nodes) in
     let C : Bool = wrong_coordinate (decimal 1000000000 0) (take (b.counts.points * 2) b.points) in
     let D : Bool = not (eqb (b.counts.row_quads + b.counts.core_quads) b.counts.quads) in
     let E : Bool = ltb b.counts.quads b.counts.laid in
     let F : Bool = ltb b.counts.row_quads (6 * b.counts.row_rounds) in
-    let v1 = or_false (A || B || C) (D || E || F) v in
-    let a = (or_false A B (or_false (A || B) C v1.0).0).0 in
-    let n = (or_false (some_from b.counts.points (take (b.counts.quads * 4) b.quads)) (some_from b.counts.points (take total b.front_nodes)) (sym (from_both b.counts.points (take (b.counts.quads * 4) b.quads) (take total b.front_nodes)) ∙ a)).1 in
+    let v1 = or_false (P || A || B || C) (D || E || F) v in
+    let n = (or_false P A (or_false (P || A) B (or_false (P || A || B) C v1.0).0).0).1 in
     let f = or_false (D || E) F v1.1 in
     let d = eqb-true (b.counts.row_quads + b.counts.core_quads) b.counts.quads (not-false _ (or_false D E f.0).0) in
     let long = c.front_nodes_long in

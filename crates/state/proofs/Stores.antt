@@ -1,6 +1,6 @@
 -- Runs of stores: a list written element by element into a buffer. Each law holds for every element type.
 use mathlib.Core.Path.{◌≡◌, refl, sym, ap, ◌∙◌}
-use mathlib.Core.List.{List, [], ◌∷◌, ◌++◌, append-nil}
+use mathlib.Core.List.{List, [], ◌∷◌, ◌++◌, append-nil, append_assoc}
 use Prim.Native.Nat.{ℕ, zero, suc, ◌+◌, ◌-◌, ◌≤◌, ◌<◌}
 use native.Mathlib.Nat.{zero-add, add-zero, add-suc, suc-add, le_of_eq}
 use native.Mathlib.Numerals.{add-one}
@@ -8,6 +8,9 @@ use native.Mathlib.Omega.{arith}
 use lib.ListN.{length, get_or, take, drop, set, replicate, get_or-append, drop_of_length-le}
 use lib.Seq.{sets, sets-eq, take-append_seam, get_or-set_same, get_or-set_other}
 use borrow.Author.Count.{below_more}
+use borrow.Rule.Slice.PartMut.{put_mid}
+use Rattle.std.proofs.lemmas.Slice.{put_mid-paste}
+use Rattle.std.proofs.lemmas.List.Edits.{paste_all}
 use Rattle.state.specs.State.{padded}
 
 -- one list behind another
@@ -29,6 +32,11 @@ module _ {A : Type 0} (d q : List A) (fits : length q ≤ length d) where
 -- a buffer written whole
 pub sets_all : {A : Type 0} (d q : List A) → length d ≡ length q → sets d 0 q ≡ q
 sets_all d q e = front d q (le_of_eq (sym e)) ∙ rw (drop_of_length-le d (le_of_eq e)) (append-nil q)
+
+-- a part that was lent to be written is back
+pub part_put : {A : Type 0} (d s q : List A) (at k : ℕ) → at + length q ≤ length d → k ≡ at + length q → s ≡ q → put_mid at (k - at) d s ≡ sets d at q
+part_put d s q at k h l e =
+    put_mid-paste at (k - at) d s q (length q) e (omega arith) refl ∙ paste_all d at q (length q) refl ∙ sym (append_assoc (take at d) q (drop (at + length q) d)) ∙ sym (sets-eq q d at h)
 
 -- one more element, and one more point, behind what is written from place a on
 pub store_behind : {A : Type 0} (d q s : List A) (a k : ℕ) (v : A) → s ≡ sets d a q → k ≡ a + length q → set s k v ≡ sets d a (q ++ (v ∷ []))

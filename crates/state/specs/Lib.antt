@@ -1,7 +1,9 @@
 pub mod Limits
 pub mod Outcome
+pub mod Refusals
 pub mod State
 pub mod Coordinates
 pub mod Given
 pub mod Call
+pub mod Lent
 pub mod Sound

@@ -4,6 +4,7 @@ ghost use Rattle.std.proofs.lemmas.List.Edits.{sets};
 ghost use Rattle.state.specs.Limits.{point_limit};
 ghost use Rattle.state.specs.State.{numbered};
 
+// A node number. `as`, since the error of `try_from` is none that can be.
 pub fn narrow(n: usize) -> u16
     requires { n < 65536 }
     ensures { result ≡ n }
@@ -11,21 +12,19 @@ pub fn narrow(n: usize) -> u16
     n as u16
 }
 
-pub fn copy_points(points: &mut [f64], at: usize, more: &[f64])
-    requires { at + length more.now ≤ length points.old }
-    ensures { points.new ≡ sets points.old at more.now }
+// `more` from place `at` on.
+pub fn put_all<T: Copy>(buffer: &mut [T], at: usize, more: &[T])
+    requires { at + length more.now ≤ length buffer.old }
+    ensures { buffer.new ≡ sets buffer.old at more.now }
 {
-    let mut i = 0usize;
-    while i < more.len() {
-        points[at + i] = more[i];
-        i += 1;
-    }
+    buffer[at..at + more.len()].copy_from_slice(more);
 }
 
 pub fn put_quad(quads: &mut [u16], at: usize, a: u16, b: u16, c: u16, d: u16)
     requires { at + 4 ≤ length quads.old }
     ensures { quads.new ≡ sets quads.old at (a ∷ b ∷ c ∷ d ∷ []) }
 {
+    // Four stores: `copy_from_slice` of an array is a call, a fifth slower.
     quads[at] = a;
     quads[at + 1] = b;
     quads[at + 2] = c;
@@ -37,7 +36,7 @@ pub fn put_numbers(nodes: &mut [u16], start: usize, n: usize, first: usize)
     requires { (start + n ≤ length nodes.old) × (first + n ≤ point_limit) }
     ensures { nodes.new ≡ sets nodes.old start (numbered first n) }
 {
-    for i in 0..n {
-        nodes[start + i] = narrow(first + i);
+    for (i, node) in nodes[start..start + n].iter_mut().enumerate() {
+        *node = narrow(first + i);
     }
 }

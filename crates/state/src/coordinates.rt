@@ -8,10 +8,7 @@ ghost use Rattle.state.specs.Coordinates as coordinates;
 pub fn outside(low: f64, high: f64, x: f64) -> bool
     ensures { result ≡ coordinates.outside low high x }
 {
-    if low <= x {
-        return !(x <= high);
-    }
-    true
+    !(low <= x && x <= high)
 }
 
 // A finite limit is tested on either side: one that is not finite is then beyond it.
@@ -19,12 +16,10 @@ fn wrong_number(limit: f64, x: f64) -> bool
     ensures { result ≡ (not (helpers.is_finite x) || lt limit (helpers.absolute x)) }
 {
     if float::is_finite(limit) {
-        return outside(-limit, limit, x);
+        outside(-limit, limit, x)
+    } else {
+        !float::is_finite(x) || limit < float::absolute(x)
     }
-    if float::is_finite(x) {
-        return limit < float::absolute(x);
-    }
-    true
 }
 
 // A coordinate is not finite or is over `limit` in magnitude. No test ends the loop, so several are done at a time.
@@ -32,10 +27,8 @@ pub fn wrong_coordinate(limit: f64, coords: &[f64]) -> bool
     ensures { result ≡ coordinates.wrong_coordinate limit coords.now }
 {
     let mut wrong = false;
-    let mut i = 0usize;
-    while i < coords.len() {
-        wrong = wrong | wrong_number(limit, coords[i]);
-        i += 1;
+    for x in coords {
+        wrong |= wrong_number(limit, *x);
     }
     wrong
 }

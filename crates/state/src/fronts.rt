@@ -4,20 +4,13 @@ ghost use Rattle.state.specs.Limits.{front_limit};
 ghost use Rattle.geometry.specs.Domain.{sum_of};
 
 use crate::Front;
-use geometry::wide;
 
 // The sum of at most 16 lengths, of loops or of fronts.
 pub fn sum_of(lengths: &[u16]) -> usize
     requires { length lengths.now ≤ front_limit }
     ensures { result ≡ sum_of lengths.now }
 {
-    let mut sum = 0usize;
-    let mut i = 0usize;
-    while i < lengths.len() {
-        sum += wide(lengths[i]);
-        i += 1;
-    }
-    sum
+    lengths.iter().map(|n| usize::from(*n)).sum()
 }
 
 // The place of front `li` among the nodes of all fronts.
@@ -25,9 +18,10 @@ pub fn front_at(lengths: &[u16], li: usize) -> Front
     requires { (li < length lengths.now) × (length lengths.now ≤ front_limit) }
     ensures { (result.start ≡ sum_of (take li lengths.now)) × (result.len ≡ get_or lengths.now li 0) }
 {
-    let start = sum_of(&lengths[..li]);
-    let len = wide(lengths[li]);
-    Front { start, len }
+    Front {
+        start: sum_of(&lengths[..li]),
+        len: usize::from(lengths[li]),
+    }
 }
 
 // The nodes of the front at `start` with `len` nodes.
@@ -35,6 +29,5 @@ pub fn nodes_of(front_nodes: &[u16], start: usize, len: usize) -> &[u16]
     requires { start + len ≤ length front_nodes.now }
     ensures { result.now ≡ take len (drop start front_nodes.now) }
 {
-    let end = start + len;
-    &front_nodes[start..end]
+    &front_nodes[start..start + len]
 }

@@ -4,17 +4,19 @@
 
 mod appending;
 mod buffers;
-mod clearing;
 mod coordinates;
 mod fronts;
 mod given;
+mod lent;
+mod refusal;
 
-pub use appending::{copy_points, narrow, put_numbers, put_quad};
-pub use buffers::{clear_all, clear_floats_from, clear_nodes, clear_nodes_from};
-pub use clearing::clear_behind;
+pub use appending::{narrow, put_all, put_numbers, put_quad};
+pub use buffers::{clear_floats_from, clear_nodes, clear_nodes_from, fill_from};
 pub use coordinates::{outside, wrong_coordinate};
 pub use fronts::{front_at, nodes_of, sum_of};
 pub use given::wrong_state;
+pub use lent::Lent;
+pub use refusal::Refusal;
 
 // The eight counts of document 01.
 #[derive(Clone, Copy)]
@@ -27,13 +29,6 @@ pub struct Counts {
     pub row_rounds: usize,
     pub passes_begun: usize,
     pub laid: usize,
-}
-
-// What a call answers: done, with the counts, or refused, with document 01's number.
-#[derive(Clone, Copy)]
-pub enum Answer {
-    Done(Counts),
-    Refused(u32),
 }
 
 // A front's place among the nodes of all fronts: where it starts, and how many nodes it has.

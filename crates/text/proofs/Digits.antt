@@ -49,6 +49,29 @@ module _ (n : ℕ) where
 pub length_one : (n : ℕ) → n < 10 → length (decimal_text n) ≡ 1
 length_one n h = ap length (decimal_one n h)
 
+-- more than one digit from 10 on, and no other number has more
+pub tens : (n : ℕ) → 1 < length (decimal_text n) → 10 ≤ n
+tens n h = by (ltb n 10) refl
+  where
+    by : (b : Bool) → ltb n 10 ≡ b → 10 ≤ n
+    by true e = let l = length_one n (ltb-true n 10 e) in absurd (omega arith)
+    by false e = ltb-false n 10 e
+
+pub a_digit : (k n : ℕ) → 1 ≤ length (digits (suc k) n)
+unfolding digits
+a_digit k n = by (ltb n 10)
+  where
+    by : (b : Bool) → 1 ≤ length (cond b ((48 + n) ∷ []) (digits k (n / 10) ++ ((48 + n % 10) ∷ [])))
+    by true = omega arith
+    by false = omega (arith, length-append (digits k (n / 10)) ((48 + n % 10) ∷ []))
+
+pub ones : (n : ℕ) → n < 2 ^ 64 → length (decimal_text n) ≤ 1 → n < 10
+ones n g h = by (ltb n 10) refl
+  where
+    by : (b : Bool) → ltb n 10 ≡ b → n < 10
+    by true e = ltb-true n 10 e
+    by false e = let l = length_more n (ltb-false n 10 e) g in let m = a_digit 19 (n / 10) in absurd (omega arith)
+
 pub length_at_most : (k n : ℕ) → length (digits k n) ≤ k
 unfolding digits
 length_at_most zero n = omega arith

@@ -1,16 +1,18 @@
 -- Laws of fields and of words at the head of a text.
 use mathlib.Core.Path.{◌≡◌, refl, sym, ◌∙◌, ap}
-use mathlib.Core.Bool.{Bool, true, false, cond}
+use mathlib.Core.Bool.{Bool, true, false, not, cond, ◌&&◌}
 use mathlib.Core.List.{List, [], ◌∷◌}
 use mathlib.Core.Option.{none, some}
-use Prim.Native.Nat.{ℕ, zero, suc, ◌+◌, ◌≤◌, ◌<◌, zero-le, suc-le-suc}
+use Prim.Native.Nat.{ℕ, zero, suc, ◌+◌, ◌-◌, ◌≤◌, ◌<◌, zero-le, suc-le-suc}
 use native.Mathlib.Nat.{add-zero, zero-add, suc-add}
 use native.Mathlib.Numerals.{add-one}
 use native.Mathlib.Omega.{arith}
-use borrow.Author.Tests.{eq-eqb, ne_eqb}
-use lib.Dec.{eqb}
+use borrow.Author.Tests.{ne_eqb, ltb-false}
+use lib.Dec.{eqb, ltb}
 use lib.ListN.{length, get_or, take, drop, length-drop, drop_of_length-le}
-use lib.Seq.{drop-cons, drop-drop, slice, take-nil}
+use lib.Seq.{drop-cons, drop-drop, slice, take-nil, length-slice, take_all}
+use Rattle.std.specs.Prelude.{Option, Some, None}
+use Rattle.std.specs.List.{position, position_or_len, starts_with}
 use Rattle.text.specs.Fields.{ends_field, field, after_field, field_end, behind}
 
 -- ---- a field is what stands before its end, and what comes after it stands from there on
@@ -42,31 +44,51 @@ field_short (b ∷ bs) = by (ends_field b) (field_short bs)
     by true i = zero-le
     by false i = suc-le-suc i
 
--- ---- the place where a field ends, looked for byte by byte
+-- ---- the place where a field ends
 
-pub tab-ends : (b : ℕ) → b ≡ 9 → ends_field b ≡ true
-tab-ends b e = rw (eq-eqb b 9 e)
+-- it is the first that ends one
+pub first_end : (t : List ℕ) → position_or_len ends_field t ≡ length (field t)
+unfolding field
+first_end [] = refl
+first_end (b ∷ bs) = by (ends_field b) (first_end bs)
+  where
+    by : (e : Bool) → position_or_len ends_field bs ≡ length (field bs) → cond (not e) (1 + position_or_len ends_field bs) 0 ≡ length (cond e [] (b ∷ field bs))
+    by true i = refl
+    by false i = omega arith
 
-pub lf-ends : (b : ℕ) → (b ≡ 9 → ⊥) → b ≡ 10 → ends_field b ≡ true
-lf-ends b n e = rw (ne_eqb b 9 n, eq-eqb b 10 e)
+-- the text from `at` on, as the code has it
+pub tail_is : (t : List ℕ) (at : ℕ) → take (length t - at) (drop at t) ≡ drop at t
+tail_is t at = take_all (length t - at) (drop at t) (let l = length-drop at t in omega arith)
+
+module _ (t : List ℕ) (at : ℕ) (h : at ≤ length t) where
+  abbrev found : ℕ
+  found = position_or_len ends_field (drop at t)
+
+  pub end_some : {n : ℕ} → Some n ≡ position ends_field (take (length t - at) (drop at t)) → at + n ≡ field_end t at
+  unfolding field_end found
+  end_some {n} e = by (ltb found (length (drop at t))) (e ∙ rw (tail_is t at))
+    where
+      by : (b : Bool) → Some n ≡ cond b (Some found) None → at + n ≡ at + length (field (drop at t))
+      by true i = let s : n ≡ found = cc in ap (λ k. at + k) (s ∙ first_end (drop at t))
+      by false i = cc
+
+  pub end_none : None ≡ position ends_field (take (length t - at) (drop at t)) → length t ≡ field_end t at
+  unfolding field_end found
+  end_none e = by (ltb found (length (drop at t))) refl (e ∙ rw (tail_is t at))
+    where
+      by : (b : Bool) → ltb found (length (drop at t)) ≡ b → ◌≡◌ {A = Option ℕ} None (cond b (Some found) None) → length t ≡ at + length (field (drop at t))
+      by true j i = cc
+      by false j i =
+          let l = length-drop at t in
+          let m = ltb-false found (length (drop at t)) j in
+          let s = field_short (drop at t) in
+          let f = first_end (drop at t) in
+          omega arith
 
 pub none_ends : (b : ℕ) → (b ≡ 9 → ⊥) → (b ≡ 10 → ⊥) → ends_field b ≡ false
 none_ends b n m = rw (ne_eqb b 9 n, ne_eqb b 10 m)
 
 module _ (t : List ℕ) (at : ℕ) where
-  pub end_last : length t ≤ at → field_end t at ≡ at
-  unfolding field field_end
-  end_last h = rw (drop_of_length-le t h) (add-zero at)
-
-  module _ (h : at < length t) where
-    pub end_stops : ends_field (get_or t at 0) ≡ true → field_end t at ≡ at
-    unfolding field field_end
-    end_stops e = rw (drop-cons t at 0 h, e) (add-zero at)
-
-    pub end_goes : ends_field (get_or t at 0) ≡ false → field_end t at ≡ field_end t (at + 1)
-    unfolding field field_end
-    end_goes e = rw (drop-cons t at 0 h, e, add-one) (omega arith)
-
   pub end_within : at ≤ length t → (at ≤ field_end t at) × (field_end t at ≤ length t)
   unfolding field_end
   end_within h = let s = field_short (drop at t) in let d = length-drop at t in (omega arith, omega arith)
@@ -75,6 +97,14 @@ pub drop-take : (a n : ℕ) (l : List ℕ) → drop a (take (a + n) l) ≡ take 
 drop-take zero n l = rw zero-add
 drop-take (suc a) n [] = rw suc-add (sym (take-nil n))
 drop-take (suc a) n (x ∷ l) = rw suc-add (drop-take a n l)
+
+-- a part of the text, as the code has it
+module _ (t : List ℕ) (at end : ℕ) (h : at ≤ end) where
+  pub part_is : take (end - at) (drop at t) ≡ slice at end t
+  part_is = let e : at + (end - at) ≡ end = omega arith in sym (drop-take at (end - at) t) ∙ rw e
+
+  pub part_long : end ≤ length t → length (take (end - at) (drop at t)) ≡ end - at
+  part_long l = ap length part_is ∙ length-slice at end t l
 
 -- the field from `at` on, as the code has it
 pub field_at : (t : List ℕ) (at : ℕ) → slice at (field_end t at) t ≡ field (drop at t)
@@ -98,30 +128,16 @@ behind_is (x ∷ w) (b ∷ t) {r} e = by (eqb x b) (λ e. behind_is w t e) e
     by true i e = ((i e).0, suc-le-suc (i e).1)
     by false i e = let z : ◌≡◌ {A = ℕ} 0 1 = cc in absurd (omega arith)
 
-pub too_short : (w t : List ℕ) → length t < length w → behind w t ≡ none
+-- `starts_with` compares the word with as many bytes of the text
+pub behind_starts : (w t : List ℕ) → behind w t ≡ cond (starts_with eqb t w) (some (drop (length w) t)) none
 unfolding behind
-too_short [] t h = absurd (omega arith)
-too_short (x ∷ w) [] h = refl
-too_short (x ∷ w) (b ∷ t) h = by (eqb x b) (too_short w t (omega arith))
+behind_starts [] t = refl
+behind_starts (x ∷ w) [] = refl
+behind_starts (x ∷ w) (b ∷ t) = by (eqb x b) (behind_starts w t)
   where
-    by : (s : Bool) → behind w t ≡ none → cond s (behind w t) none ≡ none
+    by : (s : Bool) → behind w t ≡ cond (starts_with eqb t w) (some (drop (length w) t)) none → cond s (behind w t) none ≡ cond (s && starts_with eqb t w) (some (drop (length w) t)) none
     by true i = i
     by false i = refl
 
--- a word that is compared byte by byte
-module _ (w t : List ℕ) (at i : ℕ) (hw : i < length w) (ht : at + i < length t) where
-  first_true : behind (drop i w) (drop (at + i) t) ≡ cond (eqb (get_or w i 0) (get_or t (at + i) 0)) (behind (drop (suc i) w) (drop (suc (at + i)) t)) none
-  unfolding behind
-  first_true = rw (drop-cons w i 0 hw, drop-cons t (at + i) 0 ht)
-
-  pub same_goes : get_or t (at + i) 0 ≡ get_or w i 0 → behind (drop i w) (drop (at + i) t) ≡ behind (drop (i + 1) w) (drop (at + (i + 1)) t)
-  same_goes e =
-      let n : at + (i + 1) ≡ suc (at + i) = omega arith in
-      first_true ∙ rw (eq-eqb _ _ (sym e), n, add-one)
-
-  pub other_stops : (get_or t (at + i) 0 ≡ get_or w i 0 → ⊥) → behind (drop i w) (drop (at + i) t) ≡ none
-  other_stops n = first_true ∙ rw (ne_eqb _ _ (λ e. n (sym e)))
-
-pub all_same : (w t : List ℕ) (at i : ℕ) → length w ≤ i → behind (drop i w) (drop (at + i) t) ≡ some (drop (at + i) t)
-unfolding behind
-all_same w t at i h = rw (drop_of_length-le w h)
+pub behind_at : (w t : List ℕ) (at : ℕ) {r : Bool} → r ≡ starts_with eqb (take (length t - at) (drop at t)) w → behind w (drop at t) ≡ cond r (some (drop (at + length w) t)) none
+behind_at w t at e = behind_starts w (drop at t) ∙ rw (e, tail_is t at, drop-drop)

@@ -4,11 +4,12 @@ use mathlib.Core.Bool.{Bool, true, false, cond}
 use mathlib.Core.List.{List, [], ◌∷◌, ◌++◌}
 use Prim.Native.Nat.{ℕ, zero, suc, ◌+◌, ◌-◌, ◌*◌, ◌/◌, ◌%◌, ◌^◌, ◌≤◌, ◌<◌}
 use native.Mathlib.Nat.{pow-suc, pow-le-pow_right}
+use native.Mathlib.Numerals.{add-one}
 use native.Mathlib.Omega.{arith}
 use borrow.Author.Tests.{lt-ltb, le-ltb, ltb-true, ltb-false}
 use lib.Dec.{ltb}
-use lib.ListN.{length, get_or}
-use lib.Seq.{slice, slice-cons, slice_empty}
+use lib.ListN.{length, get_or, drop, drop_of_length-le}
+use lib.Seq.{drop-cons}
 use Rattle.text.specs.Hex.{hex_digit, hex_digits, hex_text, hex_value, hex_spelled}
 
 -- ---- the value of a byte
@@ -17,11 +18,11 @@ module _ (d : ℕ) where
   pub low_value : d < 48 → (0 ≡ hex_value d) × (0 < 16)
   low_value h = let e : 0 ≡ d - 48 = omega arith in (rw (lt-ltb d 58 (omega arith)) e, omega arith)
 
-  pub digit_value : d < 58 → (d - 48 ≡ hex_value d) × (d - 48 < 16)
-  digit_value h = (rw (lt-ltb d 58 h), omega arith)
+  pub digit_value : {v : ℕ} → v ≡ d - 48 → d < 58 → (v ≡ hex_value d) × (v < 16)
+  digit_value e h = (rw (lt-ltb d 58 h) e, omega arith)
 
-  pub letter_value : 58 ≤ d → d < 71 → (d - 55 ≡ hex_value d) × (d - 55 < 16)
-  letter_value g h = (rw (le-ltb d 58 g, lt-ltb d 71 h), omega arith)
+  pub letter_value : {v : ℕ} → v ≡ d - 55 → 58 ≤ d → d < 71 → (v ≡ hex_value d) × (v < 16)
+  letter_value e g h = (rw (le-ltb d 58 g, lt-ltb d 71 h) e, omega arith)
 
   pub high_value : 58 ≤ d → 71 ≤ d → (0 ≡ hex_value d) × (0 < 16)
   high_value g h = (rw (le-ltb d 58 g, le-ltb d 71 h), omega arith)
@@ -32,8 +33,8 @@ value_digit : (d : ℕ) → d < 16 → hex_value (hex_digit d) ≡ d
 value_digit d h = by (ltb d 10) refl
   where
     by : (b : Bool) → ltb d 10 ≡ b → hex_value (cond b (48 + d) (55 + d)) ≡ d
-    by true e = let s = ltb-true d 10 e in sym (digit_value (48 + d) (omega arith)).0 ∙ omega arith
-    by false e = let s = ltb-false d 10 e in sym (letter_value (55 + d) (omega arith) (omega arith)).0 ∙ omega arith
+    by true e = let s = ltb-true d 10 e in sym (digit_value (48 + d) refl (omega arith)).0 ∙ omega arith
+    by false e = let s = ltb-false d 10 e in sym (letter_value (55 + d) refl (omega arith) (omega arith)).0 ∙ omega arith
 
 spelled-append : (v : ℕ) (xs ys : List ℕ) → hex_spelled v (xs ++ ys) ≡ hex_spelled (hex_spelled v xs) ys
 unfolding hex_spelled
@@ -53,17 +54,15 @@ hex_spelled_lem (suc k) n h =
 pub hex_text_spelled : (n : ℕ) → n < 2 ^ 64 → hex_spelled 0 (hex_text n) ≡ n
 hex_text_spelled n h = hex_spelled_lem 16 n h
 
--- ---- the loop that reads 16 digits: from place i on, behind the value so far
+-- ---- the loop that reads digits: from place i on, behind the value so far
 
-pub hex_next : (t : List ℕ) (at i value d : ℕ) → i < 16 → at + 16 ≤ length t → d ≡ hex_value (get_or t (at + i) 0) → hex_spelled value (slice (at + i) (at + 16) t) ≡ hex_spelled (value * 16 + d) (slice (at + (i + 1)) (at + 16) t)
+pub hex_next : (ds : List ℕ) (i value d : ℕ) → i < length ds → d ≡ hex_value (get_or ds i 0) → hex_spelled value (drop i ds) ≡ hex_spelled (value * 16 + d) (drop (i + 1) ds)
 unfolding hex_spelled
-hex_next t at i value d h l e =
-    let n : at + (i + 1) ≡ suc (at + i) = omega arith in
-    rw (n, e, slice-cons (at + i) (at + 16) t 0 (omega arith) l)
+hex_next ds i value d h e = rw (add-one, e, drop-cons ds i 0 h)
 
-pub hex_end : (t : List ℕ) (at i value : ℕ) → i ≡ 16 → hex_spelled value (slice (at + i) (at + 16) t) ≡ value
+pub hex_end : (ds : List ℕ) (i value : ℕ) → length ds ≤ i → hex_spelled value (drop i ds) ≡ value
 unfolding hex_spelled
-hex_end t at i value e = rw (e, slice_empty (at + 16) t)
+hex_end ds i value h = rw (drop_of_length-le ds h)
 
 -- one digit more fits a u64
 power : (i : ℕ) → i ≤ 15 → 16 ^ i ≤ 2 ^ 60

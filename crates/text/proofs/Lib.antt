@@ -4,3 +4,4 @@ pub mod Midst
 pub mod Digits
 pub mod Writings
 pub mod HexLaws
+pub mod Stores

@@ -1,12 +1,12 @@
 -- Text put piece by piece into a buffer: what is left of it says how far it is.
 use mathlib.Core.Path.{◌≡◌, refl, sym, ◌∙◌, ap}
-use mathlib.Core.List.{List, [], ◌∷◌, ◌++◌, append-nil}
+use mathlib.Core.List.{List, [], ◌∷◌, ◌++◌, append-nil, append_assoc}
 use Prim.Native.Nat.{ℕ, suc, ◌+◌, ◌-◌, ◌<◌, ◌≤◌}
 use native.Mathlib.Nat.{add-suc, suc-add, add-zero}
-use native.Mathlib.Numerals.{add-one}
 use native.Mathlib.Omega.{arith}
-use lib.ListN.{length, get_or, drop, replicate, set, length-append, length-replicate, drop_of_length-le}
-use lib.Seq.{sets, sets-eq, set_comm, length-sets, drop-cons}
+use borrow.Rule.Slice.PartMut.{put_mid, Post-is}
+use lib.ListN.{length, take, drop, replicate, set, length-append, length-replicate, drop_of_length-le}
+use lib.Seq.{sets, sets-eq, set_comm, length-sets}
 use Rattle.text.specs.Putting.{Put, Room}
 
 -- one list behind another
@@ -42,7 +42,7 @@ pub record Midst (before : List ℕ) (at : ℕ) (text after : List ℕ) (next : 
 pub begin : (d : List ℕ) (a : ℕ) (t : List ℕ) → Midst d a t d a t
 begin d a t = record { bytes = refl; place = refl; long = refl }
 
-long_put : {e xs f : List ℕ} {k r : ℕ} → Put e k xs f r → length f ≡ length e
+pub long_put : {e xs f : List ℕ} {k r : ℕ} → Put e k xs f r → length f ≡ length e
 long_put {e} {xs} {f} {k} p = ap length p.bytes ∙ length-sets e k xs
 
 module _ {d : List ℕ} {a : ℕ} {t e : List ℕ} {k : ℕ} where
@@ -72,34 +72,13 @@ module _ {d : List ℕ} {a : ℕ} {t e : List ℕ} {k : ℕ} where
   pub same_rest : {xs ys : List ℕ} → xs ≡ ys → Midst d a t e k xs → Midst d a t e k ys
   same_rest q m = rw (← q) m
 
--- ---- the bytes of a word, one a turn
+-- ---- a part of the buffer, written as a whole
 
-pub begin_word : (d : List ℕ) (a : ℕ) (w : List ℕ) → Midst d a w d (a + 0) w
-begin_word d a w = rw (add-zero a) (begin d a w)
-
-module _ {d t e : List ℕ} {a : ℕ} (w : List ℕ) (i : ℕ) where
-  pub copied : (z : ℕ) → i < length w → Midst d a t e (a + i) (drop i w) → Midst d a t (set e (a + i) (get_or w i z)) (a + (i + 1)) (drop (i + 1) w)
-  copied z h m =
-      let q : drop i w ≡ (get_or w i z ∷ []) ++ drop (i + 1) w = rw add-one (drop-cons w i z h) in
-      let n : a + i + 1 ≡ a + (i + 1) = omega arith in
-      rw n at (more (same_rest q m) (byte_put e (a + i) (get_or w i z)))
-
-  pub copied_all : length w ≤ i → Midst d a t e (a + i) (drop i w) → Put d a t e (a + i)
-  copied_all h m = ended (same_rest (drop_of_length-le w h) m)
-
--- ---- zeros, up to the end of a buffer of n bytes
-
-module _ {d t e : List ℕ} {a : ℕ} (n i : ℕ) where
-  pub zero_more : i < n → Midst d a t e i (replicate (n - i) 0) → Midst d a t (set e i 0) (i + 1) (replicate (n - (i + 1)) 0)
-  zero_more h m =
-      let s : n - i ≡ suc (n - (i + 1)) = omega arith in
-      let q : replicate {A = ℕ} (n - i) 0 ≡ (0 ∷ []) ++ replicate (n - (i + 1)) 0 = rw s in
-      more (same_rest q m) (byte_put e i 0)
-
-  pub zeros_end : n ≤ i → Midst d a t e i (replicate (n - i) 0) → e ≡ sets d a t
-  zeros_end h m =
-      let z : n - i ≡ 0 = omega arith in
-      (ended (same_rest (ap (λ k. replicate k 0) z) m)).bytes
+pub part_put : (d w : List ℕ) (a e : ℕ) → e ≡ a + length w → e ≤ length d → put_mid a (e - a) d w ≡ sets d a w
+part_put d w a e i h =
+    let l : a ≤ e = omega arith in
+    let f : a + length w ≤ length d = omega arith in
+    rw (Post-is a e d l, i) (sym (append_assoc (take a d) w (drop (a + length w) d))) ∙ sym (sets-eq w d a f)
 
 -- a text from the buffer's front, and zeros behind it
 pub zeros-behind : {d e f t : List ℕ} {r : ℕ} → Put d 0 t e r → Room d 0 t → f ≡ sets e r (replicate (length e - r) 0) → f ≡ t ++ replicate (length d - length t) 0

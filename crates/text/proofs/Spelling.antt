@@ -9,8 +9,8 @@ use native.Mathlib.Omega.{arith}
 use borrow.Author.Tests.{ltb-true, ltb-false, lt-ltb, le-ltb, eqb-true, leb-true, eq-eqb}
 use lib.Dec.{eqb, leb, ltb}
 use native.Mathlib.Numerals.{add-one}
-use lib.ListN.{length, get_or, length-append}
-use lib.Seq.{slice, slice-cons, slice_empty, length-slice}
+use lib.ListN.{length, get_or, drop, length-append, drop_of_length-le}
+use lib.Seq.{slice, slice-cons, length-slice, drop-cons}
 use Rattle.text.specs.Decimal.{digits, decimal_text, spelled, same_bytes, natural_of}
 use Rattle.text.specs.Number.{spelling}
 
@@ -51,24 +51,22 @@ spelled_is (d ∷ ds) v e = spelled_is ds (v * 10 + (d - 48)) (first_spelled v d
 
 -- ---- the loop that spells: from place i on, behind the value so far
 
-module _ (t : List ℕ) (i end value : ℕ) (h : i < end) (l : end ≤ length t) where
-  pub at_place : slice i end t ≡ get_or t i 0 ∷ slice (i + 1) end t
-  at_place = rw add-one (slice-cons i end t 0 h l)
+module _ (ds : List ℕ) (i value : ℕ) (h : i < length ds) where
+  pub place_spelled : Digit (get_or ds i 0) → spelling value (drop i ds) ≡ spelling (value * 10 + (get_or ds i 0 - 48)) (drop (i + 1) ds)
+  place_spelled d = rw (add-one, drop-cons ds i 0 h) (spelling_digit value (get_or ds i 0) (drop (suc i) ds) d)
 
-  pub place_spelled : Digit (get_or t i 0) → spelling value (slice i end t) ≡ spelling (value * 10 + (get_or t i 0 - 48)) (slice (i + 1) end t)
-  place_spelled d = rw at_place (spelling_digit value (get_or t i 0) (slice (i + 1) end t) d)
-
-  pub place_below : get_or t i 0 < 48 → spelling value (slice i end t) ≡ none
+  pub place_other : (Digit (get_or ds i 0) → ⊥) → spelling value (drop i ds) ≡ none
   unfolding spelling
-  place_below b = rw (at_place, lt-ltb (get_or t i 0) 48 b)
+  place_other o = rw (drop-cons ds i 0 h) (by (ltb (get_or ds i 0) 48) (ltb 57 (get_or ds i 0)) refl refl)
+    where
+      by : (a b : Bool) → ltb (get_or ds i 0) 48 ≡ a → ltb 57 (get_or ds i 0) ≡ b → cond (a || b) none (spelling (value * 10 + (get_or ds i 0 - 48)) (drop (suc i) ds)) ≡ none
+      by true b l g = refl
+      by false true l g = refl
+      by false false l g = absurd (o (record { from = ltb-false (get_or ds i 0) 48 l; to = ltb-false 57 (get_or ds i 0) g }))
 
-  pub place_above : 48 ≤ get_or t i 0 → 57 < get_or t i 0 → spelling value (slice i end t) ≡ none
-  unfolding spelling
-  place_above a b = rw (at_place, le-ltb (get_or t i 0) 48 a, lt-ltb 57 (get_or t i 0) b)
-
-pub end_spelled : (t : List ℕ) (i end value : ℕ) → i ≡ end → spelling value (slice i end t) ≡ some value
+pub all_spelled : (ds : List ℕ) (i value : ℕ) → length ds ≤ i → spelling value (drop i ds) ≡ some value
 unfolding spelling
-end_spelled t i end value e = rw (e, slice_empty end t)
+all_spelled ds i value h = rw (drop_of_length-le ds h)
 
 -- seven digits fit a u32
 pub small_power : (k : ℕ) → k ≤ 6 → 10 ^ k ≤ 1000000
@@ -241,27 +239,11 @@ pub spelled_number : (most : ℕ) (f : List ℕ) {n : ℕ} → 1 ≤ length f �
 spelled_number most [] l m z e = absurd (omega arith)
 spelled_number most (d ∷ ds) l m z e = number_is most (d ∷ ds) e (written d ds (omega arith) (λ h. let k = z h in omega arith) e)
 
--- ---- the field from `at` up to `end`, by its length and its first byte
+-- ---- the field from `at` up to `end`
 
 module _ (t : List ℕ) (at end most : ℕ) (l : end ≤ length t) where
-  long_is : length (slice at end t) ≡ end - at
-  long_is = length-slice at end t l
+  pub at_place : at < end → slice at end t ≡ get_or t at 0 ∷ slice (at + 1) end t
+  at_place h = rw add-one (slice-cons at end t 0 h l)
 
   pub no_byte : end ≡ at → natural_of most (slice at end t) ≡ none
-  no_byte e = empty_none most (slice at end t) (let z = long_is in omega arith)
-
-  module _ (h : at < end) where
-    first_is : get_or (slice at end t) 0 0 ≡ get_or t at 0
-    first_is = rw (at_place t at end 0 h l)
-
-    pub digits_are : {n : ℕ} → end - at ≤ 7 → (get_or t at 0 ≡ 48 → end - at ≡ 1) → spelling 0 (slice at end t) ≡ some n → natural_of most (slice at end t) ≡ cond (leb n most) (some n) none
-    digits_are k z e =
-        let m = long_is in
-        spelled_number most (slice at end t) (omega arith) (omega arith) (λ d. long_is ∙ z (sym first_is ∙ d)) e
-
-    module _ (small : most < 10000000) where
-      pub too_many_bytes : 7 < end - at → natural_of most (slice at end t) ≡ none
-      too_many_bytes k = long_none most (slice at end t) small (let m = long_is in omega arith)
-
-      pub zero_first : get_or t at 0 ≡ 48 → (end - at ≡ 1 → ⊥) → natural_of most (slice at end t) ≡ none
-      zero_first z o = zero_none most (slice at end t) small (first_is ∙ z) (λ m. o (sym long_is ∙ m))
+  no_byte e = empty_none most (slice at end t) (let z = length-slice at end t l in omega arith)

@@ -4,3 +4,4 @@ pub mod Number
 pub mod Hex
 pub mod Putting
 pub mod Words
+pub mod Writing

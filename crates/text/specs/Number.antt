@@ -1,12 +1,11 @@
--- What the code that reads a number answers, as an option. Definitions only.
-use Rattle.std.specs.Prelude.{ℕ, ◌+◌, ◌-◌, ◌*◌, cond, ◌||◌, List, [], ◌∷◌, ltb}
+-- What the code that reads a number answers, as the definitions' option. Definitions only.
+use Rattle.std.specs.Prelude as rust
+use Rattle.std.specs.Prelude.{ℕ, ◌+◌, ◌-◌, ◌*◌, cond, ◌||◌, List, [], ◌∷◌, ltb, Some, None}
 use Rattle.std.proofs.Math.Option.{Option, none, some}
-use Rattle.text.specs.declared.numbers.Number.{Number}
-use Rattle.text.specs.declared.numbers.Number.TheVariants.{Is, No}
 
-abbrev pub number_in : Number → Option ℕ
-number_in (Is n) = some n
-number_in No = none
+abbrev pub number_in : rust.Option ℕ → Option ℕ
+number_in (Some n) = some n
+number_in None = none
 
 -- the number that bytes spell behind the number v, where all are digits
 unfoldable pub spelling : ℕ → List ℕ → Option ℕ

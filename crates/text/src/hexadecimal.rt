@@ -10,10 +10,10 @@ fn hex_value(d: u8) -> u64
         return 0;
     }
     if d < 58 {
-        return (d - 48) as u64;
+        return u64::from(d - b'0');
     }
     if d < 71 {
-        return (d - 55) as u64;
+        return u64::from(d - b'7');
     }
     0
 }
@@ -24,10 +24,8 @@ pub fn hex(text: &[u8], at: usize) -> u64
     ensures { result ≡ hex_spelled 0 (slice at (at + 16) text.now) }
 {
     let mut value = 0u64;
-    let mut i = 0usize;
-    while i < 16 {
-        value = value * 16 + hex_value(text[at + i]);
-        i += 1;
+    for digit in &text[at..at + 16] {
+        value = value * 16 + hex_value(*digit);
     }
     value
 }

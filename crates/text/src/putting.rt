@@ -19,12 +19,9 @@ pub fn put_bytes(out: &mut [u8], at: usize, word: &[u8]) -> usize
     requires { Room out.old at word.now }
     ensures { Put out.old at word.now out.new result }
 {
-    let mut i = 0usize;
-    while i < word.len() {
-        out[at + i] = word[i];
-        i += 1;
-    }
-    at + i
+    let end = at + word.len();
+    out[at..end].copy_from_slice(word);
+    end
 }
 
 // ---- decimal digits
@@ -47,6 +44,7 @@ fn places(n: u64) -> usize
     }
     let mut k = 5usize;
     let mut rest = n / 10000;
+    // by the digits that are left, which no index counts
     while 10 <= rest {
         rest /= 10;
         k += 1;
@@ -60,14 +58,12 @@ pub fn put_decimal(out: &mut [u8], at: usize, n: u64) -> usize
     ensures { Put out.old at (decimal_text n) out.new result }
 {
     let end = at + places(n);
-    let mut i = end;
     let mut rest = n;
-    while 10 <= rest {
-        i -= 1;
-        out[i] = (48 + rest % 10) as u8;
+    for i in (at + 1..end).rev() {
+        out[i] = b'0' + (rest % 10) as u8;
         rest /= 10;
     }
-    out[at] = (48 + rest) as u8;
+    out[at] = b'0' + rest as u8;
     end
 }
 
@@ -78,9 +74,9 @@ fn hex_digit(d: u64) -> u8
     ensures { result ≡ hex_digit d }
 {
     if d < 10 {
-        (48 + d) as u8
+        b'0' + d as u8
     } else {
-        (55 + d) as u8
+        b'7' + d as u8
     }
 }
 
@@ -88,10 +84,8 @@ pub fn put_hex(out: &mut [u8], at: usize, bits: u64) -> usize
     requires { Room out.old at (hex_text bits) }
     ensures { Put out.old at (hex_text bits) out.new result }
 {
-    let mut i = 16usize;
     let mut rest = bits;
-    while 0 < i {
-        i -= 1;
+    for i in (0..16).rev() {
         out[at + i] = hex_digit(rest % 16);
         rest /= 16;
     }
@@ -115,9 +109,5 @@ pub fn put_zeros(out: &mut [u8], at: usize)
     requires { at ≤ length out.old }
     ensures { out.new ≡ sets out.old at (replicate (length out.old - at) 0) }
 {
-    let mut i = at;
-    while i < out.len() {
-        out[i] = 0;
-        i += 1;
-    }
+    out[at..].fill(0);
 }

@@ -14,7 +14,9 @@ use Rattle.answer_text.specs.AnswerText.{refused_text}
 use Rattle.tile_text.specs.TileList.{TileList}
 use Rattle.tile_text.specs.Reading.{read_list}
 use Rattle.tile_list.specs.Recheck.{list_room, list_number, verdict_text, recheck_text, rechecked, recheck_call}
-use Rattle.tile_list.specs.Steps.{Stands}
+use Rattle.tile_list.specs.Steps.{Stands, number_of}
+use Rattle.tile_list.specs.declared.error.ListError.{ListError}
+use Rattle.tile_list.specs.declared.error.ListError.TheVariants.{Unreadable, WrongPair, WrongCorner}
 
 module _ (t : List ℕ) where
   pub unreadable : read_list t ≡ none → refused_text 30 ≡ recheck_text t
@@ -33,6 +35,11 @@ module _ (t : List ℕ) where
     pub accepted : (n : ℕ) → n ≡ list_number l → n ≡ 0 → t ≡ recheck_text t
     unfolding verdict_text
     accepted n i z = sym (read ∙ rw (← i, eq-eqb n 0 z))
+
+pub some_number : (e : ListError) → number_of e ≡ 0 → ⊥
+some_number Unreadable = λ h. omega arith
+some_number WrongPair = λ h. omega arith
+some_number WrongCorner = λ h. omega arith
 
 -- a text put from the first place on
 pub stands : {d x after text : List ℕ} {r : ℕ} → x ≡ text → Put d 0 x after r → length x ≤ length d → Stands text after r

@@ -1,47 +1,48 @@
 -- One quad after another.
 use mathlib.Core.Path.{◌≡◌, refl, sym, ◌∙◌, ap}
 use mathlib.Core.Bool.{Bool, true, false, ◌&&◌, ◌||◌, not}
-use mathlib.Core.List.{List, [], ◌∷◌}
-use Prim.Native.Nat.{ℕ, suc, ◌+◌, ◌-◌, ◌*◌, ◌≤◌, ◌<◌}
+use mathlib.Core.List.{List, [], ◌∷◌, ◌++◌}
+use Prim.Native.Nat.{ℕ, suc, ◌+◌, ◌/◌, ◌<◌}
 use native.Mathlib.Omega.{arith}
-use lib.ListN.{get_or, drop}
-use lib.Seq.{get_or-drop, drop-drop}
+use lib.ListN.{length, get_or, length-append, get_or-append}
+use lib.Seq.{get_or-append-add}
 use lib.Dec.{eqb}
 use borrow.Author.Tests.{eq-eqb, ne_eqb}
 use Rattle.state.specs.State.{Quad, quad, quads_of}
 use Rattle.state.specs.Given.{member, repeated}
+use Rattle.answer_text.proofs.LineLaws.{all_quads}
 use Rattle.tile_text.specs.TileList.{every_quad}
 
-module _ (p : Quad → Bool) (l : List ℕ) (n i : ℕ) where
-  abbrev pub rest : Bool
-  rest = every_quad p (quads_of (n - i) (drop (i * 4) l))
+module _ (p : Quad → Bool) where
+  -- a quad, and the quads behind it
+  pub turn : (s q r : List ℕ) → s ≡ q ++ r → length q ≡ 4
+      → every_quad p (all_quads s) ≡ (p (quad (get_or q 0 0) (get_or q 1 0) (get_or q 2 0) (get_or q 3 0)) && every_quad p (all_quads r))
+  unfolding every_quad quads_of
+  turn s [] r e h = absurd (omega arith)
+  turn s (a ∷ []) r e h = absurd (omega arith)
+  turn s (a ∷ b ∷ []) r e h = absurd (omega arith)
+  turn s (a ∷ b ∷ c ∷ []) r e h = absurd (omega arith)
+  turn s (a ∷ b ∷ c ∷ d ∷ []) r e h = let m : suc (suc (suc (suc (length r)))) / 4 ≡ suc (length r / 4) = omega arith in rw (e, m)
+  turn s (a ∷ b ∷ c ∷ d ∷ f ∷ q) r e h = absurd (omega arith)
 
-  first_is : i < n → quads_of (n - i) (drop (i * 4) l) ≡ quad (get_or l (i * 4) 0) (get_or l (i * 4 + 1) 0) (get_or l (i * 4 + 2) 0) (get_or l (i * 4 + 3) 0) ∷ quads_of (n - (i + 1)) (drop ((i + 1) * 4) l)
-  unfolding quads_of
-  first_is h =
-      let s : n - i ≡ suc (n - (i + 1)) = omega arith in
-      let z : i * 4 + 0 ≡ i * 4 = omega arith in
-      let f : i * 4 + 4 ≡ (i + 1) * 4 = omega arith in
-      rw (s, get_or-drop (i * 4) l 0 0, get_or-drop (i * 4) l 1 0, get_or-drop (i * 4) l 2 0, get_or-drop (i * 4) l 3 0, drop-drop 4 (i * 4) l, z, f)
+  module _ (s q r : List ℕ) (e : s ≡ q ++ r) (h : length q ≡ 4) {v : Bool} (tested : v ≡ p (quad (get_or q 0 0) (get_or q 1 0) (get_or q 2 0) (get_or q 3 0))) where
+    pub fails : v ≡ false → every_quad p (all_quads s) ≡ false
+    fails f = turn s q r e h ∙ rw (← tested, f)
 
-  -- the quad at place i, as the code has it
-  module _ (h : i < n) (a b c d : ℕ) (ea : a ≡ get_or l (i * 4) 0) (eb : b ≡ get_or l (i * 4 + 1) 0) (ec : c ≡ get_or l (i * 4 + 2) 0) (ed : d ≡ get_or l (i * 4 + 3) 0) where
-    turn : rest ≡ (p (quad a b c d) && every_quad p (quads_of (n - (i + 1)) (drop ((i + 1) * 4) l)))
-    unfolding every_quad
-    turn = rw (first_is h, ea, eb, ec, ed)
+    pub goes_on : v ≡ true → every_quad p (all_quads s) ≡ every_quad p (all_quads r)
+    goes_on f = turn s q r e h ∙ rw (← tested, f)
 
-    pub fails : p (quad a b c d) ≡ false → rest ≡ false
-    fails e = turn ∙ rw e
+  pub all_turns : (r : List ℕ) → length r < 4 → every_quad p (all_quads r) ≡ true
+  unfolding every_quad quads_of
+  all_turns r h = let m : length r / 4 ≡ 0 = omega arith in rw m
 
-    pub goes_on : p (quad a b c d) ≡ true → rest ≡ every_quad p (quads_of (n - (i + 1)) (drop ((i + 1) * 4) l))
-    goes_on e = turn ∙ rw e
+-- what holds of each place of a list holds of each place of its parts
+module _ (P : ℕ → Type 0) (s q r : List ℕ) (e : s ≡ q ++ r) (h : (i : ℕ) → i < length s → P (get_or s i 0)) where
+  pub of_first : (i : ℕ) → i < length q → P (get_or q i 0)
+  of_first i l = rw (e, get_or-append q r 0 i l) at (h i (let k = ap length e ∙ length-append q r in omega arith))
 
-pub turn_first : (p : Quad → Bool) (l : List ℕ) (n : ℕ) → every_quad p (quads_of n l) ≡ rest p l n 0
-turn_first p l n = let z : n - 0 ≡ n = omega arith in rw z
-
-pub all_turns : (p : Quad → Bool) (l : List ℕ) (n i : ℕ) → n ≤ i → rest p l n i ≡ true
-unfolding every_quad quads_of
-all_turns p l n i h = let z : n - i ≡ 0 = omega arith in rw z
+  pub of_rest : (i : ℕ) → i < length r → P (get_or r i 0)
+  of_rest i l = rw (e, get_or-append-add q r i 0) at (h (length q + i) (let k = ap length e ∙ length-append q r in omega arith))
 
 -- ---- four different nodes
 

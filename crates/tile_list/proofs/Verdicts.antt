@@ -1,12 +1,12 @@
 -- Which texts are readable, over the buffers that a list was read into.
 use mathlib.Core.Path.{◌≡◌, refl, sym, ◌∙◌, ap}
 use mathlib.Core.Bool.{Bool, true, false, cond, ◌&&◌, true≢false}
-use mathlib.Core.List.{List, [], ◌∷◌, ◌++◌, map, append-nil}
+use mathlib.Core.List.{List, [], ◌∷◌, ◌++◌, map}
 use mathlib.Core.Option.{Option, none, some, none-ne-some, some-injective}
 use Prim.Native.Nat.{ℕ, zero, suc, ◌*◌, ◌≤◌, ◌<◌}
 use native.Mathlib.Omega.{arith}
-use borrow.Author.Tests.{eq-eqb, eqb-true}
 use lib.Dec.{T, eqb}
+use lib.Pointwise.{pointwise, bytes_decides}
 use lib.Ieee.{Float, nan, binary64, fits, of_bits}
 use lib.Ieee.Bits.{of_bits-fits}
 use lib.ListN.{length, get_or, take, length-map, replicate, length-replicate}
@@ -19,7 +19,6 @@ use Rattle.state.specs.State.{Held, quad_nodes, joined, lengths, written, readin
 use Rattle.state.specs.Call.{held, lent}
 use Rattle.state.proofs.Stores.{front_part}
 use Rattle.text.specs.Decimal.{same_bytes}
-use Rattle.text.specs.Fields.{behind}
 use Rattle.answer_text.specs.AnswerText.{state_text}
 use Rattle.tile_text.specs.TileList.{TileList, with_fronts, loops_text, list_text, allowed}
 use Rattle.tile_text.specs.Reading.{fields_of, worded, coordinate, said, read_list}
@@ -147,39 +146,21 @@ module _ (t : List ℕ) (p : List Float) (q n k m f h : List ℕ) (c : Counts) (
     pub readable_bytes : lengths b ≡ lent → lengths o ≡ lent → allowed_held b o ≡ true → F64s (reading b).points → list_text (list_in b o) ≡ t → read_list t ≡ some (list_in b o)
     readable_bytes long along a x e = ap read_list (sym e) ∙ read_back (list_in b o) x (allowed_in p q n k m f c loops long along a)
 
--- ---- one text compared with another of the same length
-
-behind_more : (w r : List ℕ) → behind w (w ++ r) ≡ some r
-unfolding behind
-behind_more [] r = refl
-behind_more (x ∷ w) r = rw (eq-eqb x x refl) (behind_more w r)
-
-behind_same : (w t : List ℕ) {r : List ℕ} → behind w t ≡ some r → length t ≤ length w → w ≡ t
-unfolding behind
-behind_same [] [] e h = refl
-behind_same [] (b ∷ t) e h = absurd (omega arith)
-behind_same (x ∷ w) [] {r} e h = absurd (none-ne-some r e)
-behind_same (x ∷ w) (y ∷ t) {r} e h = by (eqb x y) refl (λ g. behind_same w t g (omega arith)) e
-  where
-    by : (s : Bool) → eqb x y ≡ s → (behind w t ≡ some r → w ≡ t) → cond s (behind w t) none ≡ some r → x ∷ w ≡ y ∷ t
-    by true i rec e = let f = eqb-true x y i in let g = rec e in cc
-    by false i rec e = absurd (none-ne-some r e)
-
-pub same_bytes_lem : (w t : List ℕ) (r : Bool) (x : List ℕ) → length w ≡ length t → behind w t ≡ cond r (some x) none → ((r ≡ true) → w ≡ t) × ((r ≡ false) → w ≡ t → ⊥)
-same_bytes_lem w t true x l e = ((λ _. behind_same w t e (omega arith)), (λ f. absurd (true≢false f)))
-same_bytes_lem w t false x l e =
-    ((λ f. absurd (true≢false (sym f))), (λ _ g. none-ne-some [] (sym e ∙ ap (behind w) (sym g) ∙ ap (behind w) (sym (append-nil w)) ∙ behind_more w [])))
+-- ---- one text compared with another
 
 module _ (t : List ℕ) (l : TileList) where
   pub not_readable : (out : List ℕ) → read_list t ≡ none → ReadableIs t out l false
   not_readable out e = record { no = λ _. e; yes = λ f. absurd (true≢false (sym f)) }
 
-  -- the list's writing w stands at the front of `out`, as long as the text
-  pub compared : (out w x : List ℕ) (r : Bool) (end : ℕ) → take end out ≡ w → end ≡ length t → end ≡ length w → behind w t ≡ cond r (some x) none → ((w ≡ t → ⊥) → read_list t ≡ none) → (w ≡ t → read_list t ≡ some l)
+  -- the list's writing w stands at the front of `out`
+  pub compared : (out w : List ℕ) (r : Bool) (end : ℕ) → take end out ≡ w → end ≡ length w → r ≡ pointwise eqb t w → ((w ≡ t → ⊥) → read_list t ≡ none) → (w ≡ t → read_list t ≡ some l)
       → ReadableIs t out l r
-  compared out w x r end b i j e not_same if-same =
-      let s = same_bytes_lem w t r x (sym j ∙ i) e in
-      record { no = λ f. not_same (s.1 f); yes = λ f. (if-same (s.0 f), ap (λ (n : ℕ). take n out) (sym i) ∙ b ∙ s.0 f) }
+  compared out w r end b j e not_same if-same =
+      let d = bytes_decides t w in
+      record {
+        no = λ f. not_same (λ s. true≢false (sym (e ∙ d.1 (sym s)) ∙ f));
+        yes = λ f. let s : t ≡ w = d.0 (sym e ∙ f) in (if-same (sym s), ap (λ (n : ℕ). take n out) (ap length s ∙ sym j) ∙ b ∙ sym s);
+      }
 
 -- the code's zero is the definition's
 pub from_zeros : (t : List ℕ) (new : Lists) (r : ListRead)

@@ -1,15 +1,27 @@
 -- What the code's steps ask and answer, over the buffers that a list was read into. Definitions only.
-use Rattle.std.specs.Prelude.{ℕ, ◌≡◌, Bool, true, false, not, ◌&&◌, List, eqb, leb, length, take, replicate}
+use Rattle.std.specs.Prelude.{ℕ, ◌≡◌, Bool, true, false, not, ◌&&◌, List, eqb, leb, length, take, replicate, Result, Ok, Err}
 use Rattle.std.proofs.Math.Option.{none, some}
 use Rattle.state.specs.declared.Counts.{Counts}
 use Rattle.state.specs.State.{Held, quads_of, reading}
 use Rattle.state.specs.Given.{wrong_state}
 use Rattle.float.specs.Helpers.{decimal}
 use Rattle.state.specs.Limits.{front_limit, front_node_limit, points_length, quads_length, quad_limit}
+use Rattle.tile_list.specs.declared.error.ListError.{ListError}
+use Rattle.tile_list.specs.declared.error.ListError.TheVariants.{Unreadable, WrongPair, WrongCorner}
 use Rattle.tile_text.specs.declared.list.ListRead.{ListRead}
 use Rattle.tile_text.specs.Fields.{Lists, lists}
 use Rattle.tile_text.specs.Reading.{read_list}
 use Rattle.tile_text.specs.TileList.{TileList, every_quad, four_different, pass_limit}
+
+-- the number that refuses a list, and 0 where there is no reason to
+abbrev pub number_of : ListError → ℕ
+number_of Unreadable = 30
+number_of WrongPair = 31
+number_of WrongCorner = 32
+
+abbrev pub verdict_number : {A : Type 0} → Result A ListError → ℕ
+verdict_number (Ok x) = 0
+verdict_number (Err e) = number_of e
 
 -- the counts with the number of loops in the place of that of the fronts
 abbrev pub with_loops : Counts → ℕ → Counts

@@ -1,6 +1,7 @@
 // The text of a tile list in, the same text or a refusal out: what the program `recheck` does between its reading and its writing.
 #![tactic(auto)]
 
+mod error;
 mod quads;
 mod tests;
 mod verdict;
@@ -10,15 +11,30 @@ ghost use Rattle.std.specs.Prelude.{◌≡◌, ◌≤◌, length};
 ghost use Rattle.state.specs.Limits.{quad_limit};
 ghost use Rattle.state.specs.State.{lengths};
 ghost use Rattle.state.specs.Call.{held, lent};
+ghost use Rattle.text.specs.Putting.{Put};
+ghost use Rattle.answer_text.specs.AnswerText.{refused_text};
+ghost use Rattle.answer_text.specs.Fits.{text_limit};
 ghost use Rattle.tile_text.specs.Fields.{ListReadIs, lists};
 ghost use Rattle.tile_list.specs.Recheck.{list_room, recheck_text, recheck_call, rechecked};
-ghost use Rattle.tile_list.specs.Steps.{Stands, list_read, no_lists, with_loops};
+ghost use Rattle.tile_list.specs.Steps.{Stands, list_read, no_lists, number_of, with_loops};
 
-use crate::verdict::{is_readable, list_number};
+use crate::error::ListError;
+use crate::verdict::{check_list, is_readable};
 use answer_text::put_refused;
 use state::Counts;
-use text::put_zeros;
+use text::{Writer, put_zeros};
 use tile_text::read_list;
+
+// The text of a refusal from the first place on.
+fn put_error(out: &mut [u8], error: ListError) -> usize
+    requires { text_limit ≤ length out.old }
+    ensures put { Put out.old 0 (refused_text (number_of error)) out.new result }
+    ensures upper_bound { result ≤ text_limit }
+{
+    let mut w = Writer { out, at: 0 };
+    put_refused(&mut w, error.number());
+    w.at
+}
 
 // The answer's text from the first place on, for a list that was read into these buffers. Behind it anything may stand: a list
 // that is refused late was written there.
@@ -54,9 +70,9 @@ fn put_verdict(
         front_lengths,
         counts,
     ) {
-        return put_refused(out, 30);
+        return put_error(out, ListError::Unreadable);
     }
-    let number = list_number(
+    let checked = check_list(
         loop_nodes,
         loop_lengths,
         loops,
@@ -67,10 +83,10 @@ fn put_verdict(
         front_lengths,
         counts,
     );
-    if number != 0 {
-        return put_refused(out, number);
+    match checked {
+        Ok(()) => input.len(),
+        Err(error) => put_error(out, error),
     }
-    input.len()
 }
 
 fn put_rechecked(out: &mut [u8], input: &[u8]) -> usize

@@ -7,22 +7,6 @@ ghost use Rattle.tile_list.specs.Steps.{allowed_held, with_loops};
 use crate::quads::all_different;
 use state::{Counts, wrong_state};
 
-// The counts with the number of loops in the place of that of the fronts.
-fn with_loops(counts: Counts, loops: usize) -> Counts
-    ensures { result ≡ with_loops counts loops }
-{
-    Counts {
-        points: counts.points,
-        quads: counts.quads,
-        fronts: loops,
-        row_quads: counts.row_quads,
-        core_quads: counts.core_quads,
-        row_rounds: counts.row_rounds,
-        passes_begun: counts.passes_begun,
-        laid: counts.laid,
-    }
-}
-
 pub fn is_allowed(
     loop_nodes: &[u16],
     loop_lengths: &[u16],
@@ -40,7 +24,10 @@ pub fn is_allowed(
     if wrong_state(points, quads, front_nodes, front_lengths, counts) {
         return false;
     }
-    let others = with_loops(counts, loops);
+    let others = Counts {
+        fronts: loops,
+        ..counts
+    };
     if wrong_state(points, quads, loop_nodes, loop_lengths, others) {
         return false;
     }

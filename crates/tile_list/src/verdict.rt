@@ -4,14 +4,14 @@ ghost use Rattle.state.specs.State.{lengths, quad_nodes, quads_of};
 ghost use Rattle.state.specs.Call.{held, lent};
 ghost use Rattle.tile_text.specs.Fields.{ListReadIs, lists};
 ghost use Rattle.tile_list.specs.Recheck.{list_room, list_number};
-ghost use Rattle.tile_list.specs.Steps.{ReadableIs, allowed_held, list_in, list_read, no_lists, with_loops};
+ghost use Rattle.tile_list.specs.Steps.{ReadableIs, allowed_held, list_in, list_read, no_lists, verdict_number, with_loops};
 
+use crate::error::ListError;
 use crate::quads::all_pass;
 use crate::tests::is_allowed;
 use crate::writing::put_list;
 use pair_counts::all_twice;
 use state::Counts;
-use text::begins_with;
 
 // Whether the text is that of the list in the buffers: the list is allowed, and its writing is the text.
 pub fn is_readable(
@@ -55,14 +55,11 @@ pub fn is_readable(
         front_lengths,
         counts,
     );
-    if end != input.len() {
-        return false;
-    }
-    begins_with(input, 0, &out[..end])
+    input == &out[..end]
 }
 
-// 31 for a pair of nodes, then 32 for a corner, 0 for a list that is accepted.
-pub fn list_number(
+// The pairs of nodes, then the corners.
+pub fn check_list(
     loop_nodes: &[u16],
     loop_lengths: &[u16],
     loops: usize,
@@ -72,13 +69,13 @@ pub fn list_number(
     front_nodes: &[u16],
     front_lengths: &[u16],
     counts: Counts,
-) -> u32
+) -> Result<(), ListError>
     requires counts_value { lengths (held points.now quads.now front_nodes.now front_lengths.now counts) ≡ lent }
     requires loops_value { lengths (held points.now quads.now loop_nodes.now loop_lengths.now (with_loops counts loops)) ≡ lent }
     requires loops_value_2 { allowed_held (held points.now quads.now front_nodes.now front_lengths.now counts) (held points.now quads.now loop_nodes.now loop_lengths.now (with_loops counts loops)) ≡ true }
     requires quad_lengths_value { take counts.quads quad_lengths.now ≡ map length (map quad_nodes (quads_of counts.quads quads.now)) }
     requires quads_in_bounds { counts.quads ≤ length quad_lengths.now }
-    ensures { result ≡ list_number (list_in (held points.now quads.now front_nodes.now front_lengths.now counts) (held points.now quads.now loop_nodes.now loop_lengths.now (with_loops counts loops))) }
+    ensures { verdict_number result ≡ list_number (list_in (held points.now quads.now front_nodes.now front_lengths.now counts) (held points.now quads.now loop_nodes.now loop_lengths.now (with_loops counts loops))) }
 {
     let laid = counts.quads;
     let fronts = counts.fronts;
@@ -90,11 +87,11 @@ pub fn list_number(
         front_nodes,
         &front_lengths[..fronts],
     ) {
-        return 31;
+        return Err(ListError::WrongPair);
     }
     let coords = counts.points * 2;
     if !all_pass(&points[..coords], quads, laid) {
-        return 32;
+        return Err(ListError::WrongCorner);
     }
-    0
+    Ok(())
 }

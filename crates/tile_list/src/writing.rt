@@ -10,8 +10,9 @@ ghost use Rattle.answer_text.specs.AnswerText.{state_text};
 ghost use Rattle.tile_text.specs.TileList.{loops_text};
 ghost use Rattle.tile_list.specs.Recheck.{list_room};
 
-use answer_text::{put_rings, put_state};
+use answer_text::{put_held, put_rings};
 use state::Counts;
+use text::Writer;
 
 pub fn put_list(
     out: &mut [u8],
@@ -28,14 +29,8 @@ pub fn put_list(
     ensures put { Put out.old 0 (loops_text (cut loop_lengths.now loop_nodes.now) ++ state_text (reading (held points.now quads.now front_nodes.now front_lengths.now counts))) out.new result }
     ensures upper_bound { result ≤ list_room }
 {
-    let first = put_rings(out, 0, b's', loop_nodes, loop_lengths);
-    put_state(
-        out,
-        first,
-        points,
-        quads,
-        front_nodes,
-        front_lengths,
-        counts,
-    )
+    let mut w = Writer { out, at: 0 };
+    put_rings(&mut w, b's', loop_nodes, loop_lengths);
+    put_held(&mut w, points, quads, front_nodes, front_lengths, counts);
+    w.at
 }

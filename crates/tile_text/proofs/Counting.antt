@@ -10,8 +10,8 @@ use Rattle.state.specs.declared.Counts.{Counts}
 use Rattle.text.specs.Fields as fields
 use Rattle.text.proofs.FieldLaws.{behind_is}
 use Rattle.answer_text.specs.AnswerText.{lf, numbers_text, line_text, count_numbers}
+use Rattle.text.specs.declared.storing.Counted.{Counted}
 use Rattle.tile_text.specs.Fields.{NumbersReadIs, DoneReadIs}
-use Rattle.tile_text.specs.declared.numbers.NumbersRead.{NumbersRead}
 use Rattle.tile_text.proofs.Going.{first_at, behind}
 
 pub counts_are : (ns : List ℕ) (c : Counts) → ns ≡ count_numbers c
@@ -55,7 +55,7 @@ module _ (t : List ℕ) (at : ℕ) (r : Bool) (answer : fields.behind done (drop
       let l = length-drop at t in
       omega arith
 
-pub done_some : (t : List ℕ) (at : ℕ) (new : List ℕ) (r : NumbersRead) → NumbersReadIs t (at + 4) 0 zeros new r → (q : ℕ) → (r.next ≤ q) × (q ≤ length t) × (r.next < length t → q ≡ r.next + 1)
+pub done_some : (t : List ℕ) (at : ℕ) (new : List ℕ) (r : Counted) → NumbersReadIs t (at + 4) 0 zeros new r → (q : ℕ) → (r.next ≤ q) × (q ≤ length t) × (r.next < length t → q ≡ r.next + 1)
     → (k : Counts) → ((c : Counts) → new ≡ count_numbers c → k ≡ c) → DoneReadIs t at (record { next = q; counts = k })
 done_some t at new r read q place k told = record {
   within = place.1;

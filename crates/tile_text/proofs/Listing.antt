@@ -10,10 +10,10 @@ use lib.ListN.{length, length-map}
 use Rattle.state.specs.declared.Counts.{Counts}
 use Rattle.state.specs.State.{State, Quad, quad_nodes, nodes, counts_of}
 use Rattle.answer_text.specs.AnswerText.{lines_text, points_text, state_text}
+use Rattle.text.specs.declared.storing.Counted.{Counted}
 use Rattle.tile_text.specs.TileList.{TileList, list_text}
 use Rattle.tile_text.specs.Plain.{U16s, Plain}
 use Rattle.tile_text.specs.Fields.{Unlike, RingsReadIs, DoneReadIs, PointsReadIs, lists, stored_list, ListReadIs}
-use Rattle.tile_text.specs.declared.rings.LinesRead.{LinesRead}
 use Rattle.tile_text.specs.declared.counts.DoneRead.{DoneRead}
 use Rattle.tile_text.specs.declared.list.ListRead.{ListRead}
 
@@ -56,7 +56,7 @@ same_counts p q f told k e a b c = rw (a, b, c, e)
 same_lists : {a a' b b' : List ℕ} {c c' : List Float} {d d' e e' f f' g g' : List ℕ} → a ≡ a' → b ≡ b' → c ≡ c' → d ≡ d' → e ≡ e' → f ≡ f' → g ≡ g' → lists a b c d e f g ≡ lists a' b' c' d' e' f' g'
 same_lists ea eb ec ed ee ef eg = cc
 
-module _ (t ln ll : List ℕ) (ps : List Float) (qn ql fn fl ln' ll' : List ℕ) (ps' : List Float) (qn' ql' fn' fl' : List ℕ) (r : LinesRead) (d : DoneRead) (p q f : LinesRead)
+module _ (t ln ll : List ℕ) (ps : List Float) (qn ql fn fl ln' ll' : List ℕ) (ps' : List Float) (qn' ql' fn' fl' : List ℕ) (r : Counted) (d : DoneRead) (p q f : Counted)
     (read_r : RingsReadIs t 0 115 ln ln' ll ll' r) (read_d : DoneReadIs t r.next d) (read_p : PointsReadIs t d.next ps ps' p)
     (read_q : RingsReadIs t p.next 113 qn qn' ql ql' q) (read_f : RingsReadIs t q.next 102 fn fn' fl fl' f) where
   abbrev answer : ListRead

@@ -2,13 +2,17 @@
 use mathlib.Core.Path.{◌≡◌, refl, sym, ◌∙◌, ap}
 use mathlib.Core.Bool.{true}
 use mathlib.Core.List.{List, [], ◌∷◌, ◌++◌, append_assoc}
-use mathlib.Core.Option.{none, some}
+use mathlib.Core.Option.{some}
 use Prim.Native.Nat.{ℕ, suc, ◌+◌, ◌≤◌, ◌<◌}
 use native.Mathlib.Nat.{add-zero}
 use native.Mathlib.Omega.{arith}
 use lib.ListN.{length, get_or, drop, set}
 use lib.Seq.{sets, slice}
 use Rattle.text.specs.Decimal.{decimal_text, natural_of}
+use Rattle.text.specs.Number.{number_in}
+use Rattle.std.specs.Prelude as rust
+use Rattle.std.specs.Prelude.{Some, None}
+use Rattle.std.specs.Option.{unwrap_or}
 use Rattle.text.specs.Fields.{ends_field, field, after_field, field_end}
 use Rattle.text.proofs.FieldLaws.{field_at, after_at, end_within}
 use Rattle.text.proofs.Writings.{natural_back, field_number, after_number}
@@ -23,11 +27,9 @@ module _ (f : List ℕ) where
   is_number : (n : ℕ) → n < 65536 → f ≡ decimal_text n → natural_of 65535 f ≡ some n
   is_number n h w = rw w (natural_back 65535 n (omega arith) (omega arith))
 
-  pub found_is : {v : ℕ} → natural_of 65535 f ≡ some v → (n : ℕ) → n < 65536 → f ≡ decimal_text n → v ≡ n
-  found_is e n h w = let b = is_number n h w in cc
-
-  pub none_is : natural_of 65535 f ≡ none → (n : ℕ) → n < 65536 → f ≡ decimal_text n → 0 ≡ n
-  none_is e n h w = let b = is_number n h w in let z : ◌≡◌ {A = ℕ} 0 1 = cc in absurd (omega arith)
+  pub number_is : (o : rust.Option ℕ) → number_in o ≡ natural_of 65535 f → (n : ℕ) → n < 65536 → f ≡ decimal_text n → unwrap_or o 0 ≡ n
+  number_is (Some v) e n h w = let b = is_number n h w in cc
+  number_is None e n h w = let b = is_number n h w in let z : ◌≡◌ {A = ℕ} 0 1 = cc in absurd (omega arith)
 
 -- ---- the first number of a text of numbers
 

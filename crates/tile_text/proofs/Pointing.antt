@@ -8,8 +8,8 @@ use borrow.Author.Tests.{lt-ltb, le-ltb}
 use lib.Dec.{T}
 use lib.Ieee.{Float, nan, inf, fin, binary64, fits, is_nan, nan_bits, of_bits, to_bits}
 use lib.Ieee.Bits.{nan_bits_above, nan_bits_is, of_bits-to_bits, to_bits-lt}
-use lib.ListN.{length, get_or, drop, set, length-drop, length-set}
-use lib.Seq.{sets, set_out, slice}
+use lib.ListN.{length, get_or, drop, length-drop}
+use lib.Seq.{sets, slice}
 use Rattle.float.specs.Helpers.{is_finite}
 use Rattle.text.specs.Hex.{bits_text, hex_spelled}
 use Rattle.text.proofs.Digits.{length_hex}
@@ -46,11 +46,6 @@ module _ (x : Float) (f : T (fits binary64 x)) (finite : is_finite x ≡ true) w
   coordinate_back b r s e w h =
       let p : b ≡ to_bits binary64 x = e ∙ ap (hex_spelled 0) w ∙ digits_back in
       h (ap (nan_bits binary64) p ∙ pattern) ∙ ap (of_bits binary64) p ∙ of_bits-to_bits binary64 x f
-
--- ---- a point beyond the buffer's end is not stored
-
-pub point_out : {A : Type 0} (l : List A) (i : ℕ) (x y : A) → length l ≤ i * 2 → sets l (i * 2) (x ∷ y ∷ []) ≡ l
-point_out l i x y h = set_out (set l (i * 2) x) (suc (i * 2)) y (rw length-set (omega arith)) ∙ set_out l (i * 2) x h
 
 -- ---- the first line
 

@@ -9,9 +9,9 @@ use lib.Seq.{sets, get_or-append-add}
 use Rattle.state.specs.State.{joined}
 use Rattle.state.proofs.Stores.{sets-append}
 use Rattle.answer_text.specs.AnswerText.{lf, numbers_text, lines_text}
+use Rattle.text.specs.declared.storing.Counted.{Counted}
 use Rattle.tile_text.specs.Plain.{U16s}
 use Rattle.tile_text.specs.Fields.{Unlike, NumbersReadIs, RingsReadIs}
-use Rattle.tile_text.specs.declared.numbers.NumbersRead.{NumbersRead}
 use Rattle.tile_text.proofs.Going.{first_at, first_there, unlike_same}
 use Rattle.tile_text.proofs.Numbering.{small_first, small_rest}
 
@@ -56,7 +56,7 @@ module _ (t : List ℕ) (at letter : ℕ) (old_nodes old_lengths : List ℕ) whe
 
   module _ (nodes lengths : List ℕ) (next count stored : ℕ) (l : Left t at letter old_nodes nodes old_lengths lengths next count stored) where
     -- a line is read
-    module _ (h : next < length t) (b : get_or t next 0 ≡ letter) (newer : List ℕ) (r : NumbersRead) (read : NumbersReadIs t (next + 1) stored nodes newer r)
+    module _ (h : next < length t) (b : get_or t next 0 ≡ letter) (newer : List ℕ) (r : Counted) (read : NumbersReadIs t (next + 1) stored nodes newer r)
         (longer : List ℕ) (e : r.count < 65536 → longer ≡ set lengths count r.count)
         (q : ℕ) (behind : (r.next ≤ q) × (q ≤ length t) × (r.next < length t → q ≡ r.next + 1)) where
       one_less : (rings : List (List ℕ)) (rest : List ℕ) → Unlike letter rest → Rest t letter old_nodes nodes old_lengths lengths next count stored rings rest

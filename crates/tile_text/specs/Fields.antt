@@ -4,10 +4,9 @@ use Rattle.std.proofs.lemmas.List.Edits.{sets}
 use Rattle.state.specs.declared.Counts.{Counts}
 use Rattle.state.specs.State.{joined, quad_nodes, counts_of}
 use Rattle.answer_text.specs.AnswerText.{numbers_text, line_text, lines_text, points_text, count_numbers, lf}
+use Rattle.text.specs.declared.storing.Counted.{Counted}
 use Rattle.tile_text.specs.TileList.{TileList, list_text}
 use Rattle.tile_text.specs.Plain.{U16s, FiniteF64s, Plain}
-use Rattle.tile_text.specs.declared.numbers.NumbersRead.{NumbersRead}
-use Rattle.tile_text.specs.declared.rings.LinesRead.{LinesRead}
 use Rattle.tile_text.specs.declared.counts.DoneRead.{DoneRead}
 use Rattle.tile_text.specs.declared.list.ListRead.{ListRead}
 
@@ -17,18 +16,18 @@ Unlike letter [] = Unit
 Unlike letter (b ∷ bs) = eqb b letter ≡ false
 
 -- Numbers behind tabs, up to the line's end: counted, and stored from place `from` on; a store beyond the buffer's end stores nothing.
-pub record NumbersReadIs (t : List ℕ) (at from : ℕ) (old new : List ℕ) (r : NumbersRead) : Type 0 where
+pub record NumbersReadIs (t : List ℕ) (at from : ℕ) (old new : List ℕ) (r : Counted) : Type 0 where
   pub within : (at + r.count ≤ r.next) × (r.next ≤ length t)
   pub is : (ns rest : List ℕ) → U16s ns → drop at t ≡ numbers_text ns ++ (lf ∷ rest) → (r.count ≡ length ns) × (drop r.next t ≡ lf ∷ rest) × (new ≡ sets old from ns)
 
 -- Lines of a letter and nodes, as long as they come: counted, their nodes and their lengths stored from the first place on.
-pub record RingsReadIs (t : List ℕ) (at letter : ℕ) (old_nodes new_nodes old_lengths new_lengths : List ℕ) (r : LinesRead) : Type 0 where
+pub record RingsReadIs (t : List ℕ) (at letter : ℕ) (old_nodes new_nodes old_lengths new_lengths : List ℕ) (r : Counted) : Type 0 where
   pub within : (at + r.count ≤ r.next) × (r.next ≤ length t)
   pub is : (rings : List (List ℕ)) (rest : List ℕ) → U16s (joined rings) → U16s (map length rings) → drop at t ≡ lines_text (letter ∷ []) rings ++ rest → Unlike letter rest
       → (r.count ≡ length rings) × (drop r.next t ≡ rest) × (new_nodes ≡ sets old_nodes 0 (joined rings)) × (new_lengths ≡ sets old_lengths 0 (map length rings))
 
 -- `p` lines as long as they come: counted, the coordinates stored from the first place on. A list of an odd number of coordinates has no writing of its own.
-pub record PointsReadIs (t : List ℕ) (at : ℕ) (old new : List Float) (r : LinesRead) : Type 0 where
+pub record PointsReadIs (t : List ℕ) (at : ℕ) (old new : List Float) (r : Counted) : Type 0 where
   pub within : (at + r.count ≤ r.next) × (r.next ≤ length t)
   pub is : (n : ℕ) (xs : List Float) (rest : List ℕ) → length xs ≡ n + n → FiniteF64s xs → drop at t ≡ points_text xs ++ rest → Unlike 112 rest
       → (r.count ≡ n) × (drop r.next t ≡ rest) × (new ≡ sets old 0 xs)

@@ -21,23 +21,15 @@ fn counted(numbers: &[u16]) -> Counts
     requires { length numbers.now ≡ 8 }
     ensures { (c : Counts) → numbers.now ≡ count_numbers c → result ≡ c }
 {
-    let points = numbers[0] as usize;
-    let quads = numbers[1] as usize;
-    let fronts = numbers[2] as usize;
-    let row_quads = numbers[3] as usize;
-    let core_quads = numbers[4] as usize;
-    let row_rounds = numbers[5] as usize;
-    let passes_begun = numbers[6] as usize;
-    let laid = numbers[7] as usize;
     Counts {
-        points,
-        quads,
-        fronts,
-        row_quads,
-        core_quads,
-        row_rounds,
-        passes_begun,
-        laid,
+        points: usize::from(numbers[0]),
+        quads: usize::from(numbers[1]),
+        fronts: usize::from(numbers[2]),
+        row_quads: usize::from(numbers[3]),
+        core_quads: usize::from(numbers[4]),
+        row_rounds: usize::from(numbers[5]),
+        passes_begun: usize::from(numbers[6]),
+        laid: usize::from(numbers[7]),
     }
 }
 

@@ -34,19 +34,13 @@ pub fn read_list(
     let p = read_points(text, done.next, points);
     let q = read_rings(text, p.next, b'q', quads, quad_lengths);
     let f = read_rings(text, q.next, b'f', front_nodes, front_lengths);
-    let told = done.counts;
-    let counts = Counts {
-        points: p.count,
-        quads: q.count,
-        fronts: f.count,
-        row_quads: told.row_quads,
-        core_quads: told.core_quads,
-        row_rounds: told.row_rounds,
-        passes_begun: told.passes_begun,
-        laid: told.laid,
-    };
     ListRead {
         loops: loops.count,
-        counts,
+        counts: Counts {
+            points: p.count,
+            quads: q.count,
+            fronts: f.count,
+            ..done.counts
+        },
     }
 }

@@ -4,52 +4,41 @@ ghost use Rattle.std.proofs.Math.Seq.{slice};
 ghost use Rattle.text.specs.Decimal.{decimal_text};
 ghost use Rattle.tile_text.specs.Fields.{NumbersReadIs};
 
-use text::{Number, field_end, natural};
-
-// How many numbers came, and the place behind them.
-#[derive(Clone, Copy)]
-pub struct NumbersRead {
-    pub next: usize,
-    pub count: usize,
-}
+use text::{Counted, field_end, natural};
 
 // The number that the bytes from `at` up to `end` are the writing of, or 0.
 fn number_in(text: &[u8], at: usize, end: usize) -> usize
     requires { (at ≤ end) × (end ≤ length text.now) }
     ensures { (n : ℕ) → n < 65536 → slice at end text.now ≡ decimal_text n → result ≡ n }
 {
-    match natural(text, at, end, 65535) {
-        Number::Is(n) => n as usize,
-        Number::No => 0,
-    }
+    natural(text, at, end, 65535).unwrap_or(0) as usize
 }
 
 // A number below 65,536, stored at place `i` where there is room.
 pub fn store(nodes: &mut [u16], i: usize, n: usize)
     ensures { n < 65536 → nodes.new ≡ set nodes.old i n }
 {
-    if n < 65536 {
-        if i < nodes.len() {
-            nodes[i] = n as u16;
-        }
+    if let Ok(n) = u16::try_from(n) {
+        text::store(nodes, i, n);
     }
 }
 
 // Numbers behind tabs from `at` on, as long as they come, stored from place `from` on.
-pub fn read_numbers(text: &[u8], at: usize, nodes: &mut [u16], from: usize) -> NumbersRead
+pub fn read_numbers(text: &[u8], at: usize, nodes: &mut [u16], from: usize) -> Counted
     requires { (at ≤ length text.now) × (from ≤ at) }
     ensures { NumbersReadIs text.now at from nodes.old nodes.new result }
 {
     let mut next = at;
     let mut count = 0usize;
+    // by the place behind each number, which no index counts
     while next < text.len() {
-        if text[next] != 9 {
-            return NumbersRead { next, count };
+        if text[next] != b'\t' {
+            return Counted { next, count };
         }
         let end = field_end(text, next + 1);
         store(nodes, from + count, number_in(text, next + 1, end));
         count += 1;
         next = end;
     }
-    NumbersRead { next, count }
+    Counted { next, count }
 }

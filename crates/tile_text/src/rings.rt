@@ -3,23 +3,14 @@ ghost use Rattle.std.specs.Prelude.{◌≡◌, ◌+◌, ◌≤◌, ◌<◌, leng
 ghost use Rattle.tile_text.specs.Fields.{RingsReadIs};
 
 use crate::numbers::{read_numbers, store};
-
-// How many lines came, and the place behind them.
-#[derive(Clone, Copy)]
-pub struct LinesRead {
-    pub next: usize,
-    pub count: usize,
-}
+use text::Counted;
 
 // The place behind a line's end.
 pub fn behind_end(text: &[u8], at: usize) -> usize
     requires { at ≤ length text.now }
     ensures { (at ≤ result) × (result ≤ length text.now) × (at < length text.now → result ≡ at + 1) }
 {
-    if at < text.len() {
-        return at + 1;
-    }
-    at
+    if at < text.len() { at + 1 } else { at }
 }
 
 // The lines that begin with `letter`, from `at` on, as long as they come. All their nodes are stored one after the other, and the number of nodes of each line.
@@ -29,16 +20,17 @@ pub fn read_rings(
     letter: u8,
     nodes: &mut [u16],
     lengths: &mut [u16],
-) -> LinesRead
+) -> Counted
     requires { at ≤ length text.now }
     ensures { RingsReadIs text.now at letter nodes.old nodes.new lengths.old lengths.new result }
 {
     let mut next = at;
     let mut count = 0usize;
     let mut stored = 0usize;
+    // by the place behind each line, which no index counts
     while next < text.len() {
         if text[next] != letter {
-            return LinesRead { next, count };
+            return Counted { next, count };
         }
         let line = read_numbers(text, next + 1, nodes, stored);
         store(lengths, count, line.count);
@@ -46,5 +38,5 @@ pub fn read_rings(
         count += 1;
         next = behind_end(text, line.next);
     }
-    LinesRead { next, count }
+    Counted { next, count }
 }

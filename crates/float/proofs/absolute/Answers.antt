@@ -1,13 +1,15 @@
--- `float::absolute` meets its contract: the two tests tell the sign.
-use Rattle.std.proofs.Common.{T, sym, subst}
-use Rattle.float.proofs.Signs.{below_zero_lem, zero_size, above_zero}
+-- `float::absolute` meets its contract: std's definition is this one.
+use Rattle.std.proofs.Common.{◌≡◌, refl, false, ◌∙◌}
+use lib.Ieee.{Float, nan, inf, fin}
+use Rattle.std.specs.Float.{float_with_sign}
+use Rattle.float.specs.Helpers.{absolute}
 use Rattle.float.proofs.absolute.Goals as goal
 
-pub returns-then-x : goal.returns-then-x
-returns-then-x c = zero_size _ (subst T (sym c.well_formed.0.1) tt) c.if-x.true
+same : (x : Float) → float_with_sign false x ≡ absolute x
+unfolding float_with_sign absolute
+same nan = refl
+same (inf s) = refl
+same (fin s m e) = refl
 
-pub returns-then-x-2 : goal.returns-then-x-2
-returns-then-x-2 c = below_zero_lem _ c.if-x-2.true
-
-pub returns-else-x-2 : goal.returns-else-x-2
-returns-else-x-2 c = above_zero _ c.if-x-2.false c.if-x.false
+pub returns : goal.returns
+returns c = c.abs.ensures.value ∙ same _

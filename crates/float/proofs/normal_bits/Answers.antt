@@ -24,14 +24,14 @@ same-parity b = omega arith
 abbrev Near : ℕ → ℕ → ℕ → Type 0
 Near g r o = (g * g < (r + 2 ^ 52) * (o + 1) * 2 ^ 52 + g) × ((r + 2 ^ 52) * (o + 1) * 2 ^ 52 ≤ g * g + g)
 
-pub returns-then-g-ne0 : goal.returns-then-g-ne0
-returns-then-g-ne0 c =
+pub returns-in-Some : goal.returns-in-Some
+returns-in-Some c =
     let b = c.args.b in
-    let g = c.near_digits-g.result in
-    let n = c.near_digits-g.ensures.1 c.if-g-ne0.true in
+    let g = c.in-Some.g in
+    let n = c.in-Some.ensures in
     ap (λ (r : ℕ). ((b / 2 ^ 52 + 51) / 2 + 485) * 2 ^ 52 + r)
     (accepted ((b % 2 ^ 52 + 2 ^ 52) * ((b / 2 ^ 52 + 51) % 2 + 1)) g (doubled_most (b % 2 ^ 52 + 2 ^ 52) (b / 2 ^ 52 + 51) (small b))
-    (subst (λ (o : ℕ). Near g (b % 2 ^ 52) o) (same-parity b) (subst (λ (r : ℕ). Near g r ((b + 2 ^ 52) % 2 ^ 53 / 2 ^ 52)) (same_digits b) n)))
+    (subst (λ (o : ℕ). Near g (b % 2 ^ 52) o) (same-parity b) (subst (λ (r : ℕ). Near g r ((b + 2 ^ 52) % 2 ^ 53 / 2 ^ 52)) (same_digits b) (n.1, n.2))))
   where
     small : (b : ℕ) → b % 4503599627370496 + 4503599627370496 < 9007199254740992
     small b = omega arith

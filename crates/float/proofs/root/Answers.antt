@@ -11,17 +11,11 @@ above c = is_positive _ c.if-x.true c.if-x-2.true
 pub float_to_bits-b : goal.float_to_bits-b
 float_to_bits-b c = is_number _ (above c)
 
-pub overflow_cast-z : goal.overflow_cast-z
-overflow_cast-z c =
-    let held : T (fits binary64 c.args.x) = subst T (sym c.well_formed.0.1) tt in
-    let t : goal.Then-x-2 = search in
-    omega (arith, zeros _ (held) (above t) c.if-b-lt-LEAD.true)
-
 pub overflow_sub-z : goal.overflow_sub-z
 overflow_sub-z c =
     let held : T (fits binary64 c.args.x) = subst T (sym c.well_formed.0.1) tt in
     let t : goal.Then-x-2 = search in
-    (zeros _ (held) (above t) c.if-b-lt-LEAD.true).0
+    rw c.from-z.ensures (zeros _ (held) (above t) c.if-b-lt-LEAD.true).0
 
 pub overflow_shl-b : goal.overflow_shl-b
 overflow_shl-b c =
@@ -33,26 +27,26 @@ pub overflow_sub-z-then-b-lt-LEAD : goal.overflow_sub-z-then-b-lt-LEAD
 overflow_sub-z-then-b-lt-LEAD c =
     let held : T (fits binary64 c.args.x) = subst T (sym c.well_formed.0.1) tt in
     let t : goal.Then-x-2 = search in
-    (zeros _ (held) (above t) c.if-b-lt-LEAD.true).1
+    rw c.from-z.ensures (zeros _ (held) (above t) c.if-b-lt-LEAD.true).1
 
 pub root_bits-requires : goal.root_bits-requires
 root_bits-requires c =
     let held : T (fits binary64 c.args.x) = subst T (sym c.well_formed.0.1) tt in
     let t : goal.Then-x-2 = search in
     let S = subnormal _ (held) (above t) c.if-b-lt-LEAD.true in
-    (S.most, S.finite)
+    rw c.from-z.ensures (S.most, S.finite)
 
 pub float_from_bits-result : goal.float_from_bits-result
 float_from_bits-result c =
     let held : T (fits binary64 c.args.x) = subst T (sym c.well_formed.0.1) tt in
     let t : goal.Then-x-2 = search in
-    no_nan_bits _ (held) (above t) _ _ (subnormal _ (held) (above t) c.if-b-lt-LEAD.true) _ c.root_bits.ensures
+    no_nan_bits _ (held) (above t) _ _ (subnormal _ (held) (above t) c.if-b-lt-LEAD.true) _ (rw c.from-z.ensures at c.root_bits.ensures)
 
 pub returns-then-b-lt-LEAD : goal.returns-then-b-lt-LEAD
 returns-then-b-lt-LEAD c =
     let held : T (fits binary64 c.args.x) = subst T (sym c.well_formed.0.1) tt in
     let t : goal.Then-x-2 = search in
-    from_bits _ (held) (above t) _ _ (subnormal _ (held) (above t) c.if-b-lt-LEAD.true) _ c.root_bits.ensures
+    from_bits _ (held) (above t) _ _ (subnormal _ (held) (above t) c.if-b-lt-LEAD.true) _ (rw c.from-z.ensures at c.root_bits.ensures)
 
 pub normal_bits-requires : goal.normal_bits-requires
 normal_bits-requires c =

@@ -9,7 +9,7 @@ use Rattle.loop_text.proofs.put_lines.Goals as goal
 
 pub put_rings-requires : goal.put_rings-requires
 put_rings-requires c =
-    let short : length (loops_text (cut c.args.lengths.now c.args.nodes.now)) ≤ 12320 = (let l = fronts_length 115 c.args.lengths.now c.args.nodes.now (λ i. omega (arith, c.shared_slice_known-1.given i)) in
+    let short : length (loops_text (cut c.args.lengths.now c.args.nodes.now)) ≤ 12320 = (let l = fronts_length 115 c.args.lengths.now c.args.nodes.now (λ i. omega (arith, c.type_inv.nodes i)) in
     let n = c.requires.1 in
     let m = c.requires.2 in
     omega arith) in
@@ -19,14 +19,12 @@ put_rings-requires c =
       lengths_in_bounds = c.requires.3;
     }
 
-pub returns : goal.returns
-returns c =
-    let short : length (loops_text (cut c.args.lengths.now c.args.nodes.now)) ≤ 12320 = (let l = fronts_length 115 c.args.lengths.now c.args.nodes.now (λ i. omega (arith, c.shared_slice_known-1.given i)) in
+pub returns-clause-upper_bound : goal.returns-clause-upper_bound
+returns-clause-upper_bound c =
+    let short : length (loops_text (cut c.args.lengths.now c.args.nodes.now)) ≤ 12320 = (let l = fronts_length 115 c.args.lengths.now c.args.nodes.now (λ i. omega (arith, c.type_inv.nodes i)) in
     let n = c.requires.1 in
     let m = c.requires.2 in
     omega arith) in
     let l = short in
-    let e = c.put_rings.ensures.place in record {
-      put = c.put_rings.ensures;
-      upper_bound = omega arith;
-    }
+    let e = c.put_rings.ensures.put.place in
+    omega arith

@@ -13,18 +13,6 @@ use Rattle.pair_counts.proofs.Groups.{three_groups, below_groups, lows_small, hi
 use borrow.Author.Rules.{rules}
 use Rattle.pair_counts.proofs.all_twice.Goals as goal
 
-pub slice_bounds-sides_twice-end : goal.slice_bounds-sides_twice-end
-slice_bounds-sides_twice-end c =
-    let lows : List ℕ = take c.put_rings-all.result c.put_rings-all.new.lows in
-    let lows-long : length lows ≡ c.put_rings-all.result = length-take-le c.put_rings-all.result c.put_rings-all.new.lows (search rules) in
-    sym (lows-long)
-
-pub slice_bounds-sides_twice-end-2 : goal.slice_bounds-sides_twice-end-2
-slice_bounds-sides_twice-end-2 c =
-    let highs : List ℕ = take c.put_rings-all.result c.put_rings-all.new.highs in
-    let highs-long : length highs ≡ c.put_rings-all.result = length-take-le c.put_rings-all.result c.put_rings-all.new.highs (search rules) in
-    sym (highs-long)
-
 pub sides_twice-requires : goal.sides_twice-requires
 sides_twice-requires c =
     let rings : List (List ℕ) = cut c.args.loop_lengths.now c.args.loop_nodes.now ++ cut c.args.quad_lengths.now c.args.quads.now ++ cut c.args.front_lengths.now c.args.front_nodes.now in

@@ -5,5 +5,5 @@ use Rattle.standard.proofs.read_input.Goals as goal
 pub loop-done-preserved : goal.loop-done-preserved
 loop-done-preserved g c = record {
   within = search rules;
-  bytes = more _ _ _ c.loop-done.buf c.read_behind.new.buf _ _ c.in-Bytes.ensures.reached.1.0 c.in-Bytes.ensures.front c.loop-done.invariant.bytes c.in-Bytes.ensures.bytes;
+  bytes = more _ _ _ c.loop-done.buf c.read_behind.new.buf _ _ c.in_ok-more.ensures.reached.0 c.in_ok-more.ensures.front c.loop-done.invariant.bytes c.in_ok-more.ensures.bytes;
 }

@@ -1,4 +1,6 @@
 -- `answer_text::answer::put_answer` meets its contract: the text of a state or of a refusal.
+use mathlib.Core.Path.{ap}
+use Rattle.state.specs.Refusals.{answered}
 use Rattle.answer_text.proofs.Pieces.{done_sound, done_text, refused_text_lem}
 use Rattle.answer_text.proofs.answer.put_answer.Goals as goal
 
@@ -6,19 +8,21 @@ pub put_state-requires : goal.put_state-requires
 put_state-requires c =
     let a = c.args in record {
       text_limit_in_bounds = c.requires.text_limit_in_bounds;
-      sound = done_sound a.answer a.points.now a.quads.now a.front_nodes.now a.front_lengths.now c.in-Done.counts c.in-Done.is c.requires.sound_answer;
+      sound = done_sound (answered a.answer) a.lent.now.points.now a.lent.now.quads.now a.lent.now.front_nodes.now a.lent.now.front_lengths.now c.in-Ok.counts (ap answered c.in-Ok.is) c.requires.sound_answer;
     }
 
-pub returns-in-Done : goal.returns-in-Done
-returns-in-Done c =
+pub returns-in-Ok : goal.returns-in-Ok
+returns-in-Ok c =
     let a = c.args in record {
-      put = rw (done_text a.answer a.points.now a.quads.now a.front_nodes.now a.front_lengths.now c.in-Done.counts c.in-Done.is) at c.put_state.ensures.put;
+      put = rw (done_text (answered a.answer) a.lent.now.points.now a.lent.now.quads.now a.lent.now.front_nodes.now a.lent.now.front_lengths.now c.in-Ok.counts (ap answered c.in-Ok.is)) at c.put_state.ensures.put;
       upper_bound = c.put_state.ensures.upper_bound;
+      same = c.put_state.ensures.same;
     }
 
-pub returns-in-Refused : goal.returns-in-Refused
-returns-in-Refused c =
+pub returns-in-Err : goal.returns-in-Err
+returns-in-Err c =
     let a = c.args in record {
-      put = rw (refused_text_lem a.answer a.points.now a.quads.now a.front_nodes.now a.front_lengths.now c.in-Refused.number c.in-Refused.is) at c.put_refused.ensures.put;
+      put = rw (c.number.ensures, refused_text_lem (answered a.answer) a.lent.now.points.now a.lent.now.quads.now a.lent.now.front_nodes.now a.lent.now.front_lengths.now _ (ap answered c.in-Err.is)) at c.put_refused.ensures.put;
       upper_bound = c.put_refused.ensures.upper_bound;
+      same = c.put_refused.ensures.same;
     }

@@ -1,39 +1,38 @@
--- `answer_text::answer::put_counts` meets its contract. The word, the (first c.args.out.now c.args.at c.args.counts) four counts, the other four, the LF.
+use Rattle.std.proofs.Common.{refl, ◌∙◌}
 use mathlib.Core.Path.{ap}
-use mathlib.Core.List.{List, [], ◌∷◌, ◌++◌}
-use Prim.Native.Nat.{ℕ}
-use Rattle.state.specs.declared.Counts.{Counts}
-use Rattle.text.proofs.Midst.{Midst, begin, more, room, room_last, last, same_rest}
-use Rattle.answer_text.specs.AnswerText.{lf, numbers_text, line_text, count_numbers}
-use Rattle.answer_text.proofs.Pieces.{numbers_split}
+use mathlib.Core.List.{[], ◌∷◌, ◌++◌}
+use Prim.Native.Nat.{◌+◌}
+use lib.ListN.{get_or, drop}
+use Rattle.text.specs.Decimal.{decimal_text}
+use Rattle.text.proofs.Midst.{begin, more, room, room_last, last, same_rest}
+use Rattle.answer_text.specs.AnswerText.{tab, lf, numbers_text, count_numbers}
+use Rattle.answer_text.proofs.LineLaws.{numbers_behind, numbers_end}
 use Rattle.answer_text.proofs.answer.put_counts.Goals as goal
 
-abbrev word : List ℕ
-word = 100 ∷ 111 ∷ 110 ∷ 101 ∷ []
+pub loop-count-init : goal.loop-count-init
+loop-count-init c = (more (begin _ _ _) c.bytes.ensures.put, c.bytes.ensures.same)
 
-abbrev half : Counts → List ℕ
-half n = n.points ∷ n.quads ∷ n.fronts ∷ n.row_quads ∷ []
+pub put_number-requires : goal.put_number-requires
+put_number-requires c =
+    let ns = count_numbers c.args.counts in
+    let i = c.loop-count.count-index in
+    room (tab ∷ decimal_text (get_or ns i 0)) (numbers_text (drop (i + 1) ns) ++ (lf ∷ [])) (same_rest (numbers_behind ns i _ (lf ∷ []) c.loop-count-test.true refl) c.loop-count.invariant.0) c.requires
 
-abbrev other : Counts → List ℕ
-other n = n.core_quads ∷ n.row_rounds ∷ n.passes_begun ∷ n.laid ∷ []
+pub loop-count-preserved : goal.loop-count-preserved
+loop-count-preserved c =
+    let ns = count_numbers c.args.counts in
+    let i = c.loop-count.count-index in
+    (more (same_rest (numbers_behind ns i _ (lf ∷ []) c.loop-count-test.true refl) c.loop-count.invariant.0) c.put_number.ensures.put, c.put_number.ensures.same ∙ c.loop-count.invariant.1)
 
--- the line in its four pieces
-first : (out : List ℕ) (at : ℕ) (counts : Counts) → Midst out at (line_text word (count_numbers counts)) out at (word ++ (numbers_text (half counts) ++ (numbers_text (other counts) ++ (lf ∷ []))))
-first out at counts = let n = counts in same_rest (ap (λ t. word ++ t) (numbers_split (half n) (other n) (lf ∷ []))) (begin out at (line_text word (count_numbers n)))
+pub byte-requires : goal.byte-requires
+byte-requires c =
+    let ns = count_numbers c.args.counts in
+    room_last (lf ∷ []) (same_rest (ap (λ t. t ++ (lf ∷ [])) (numbers_end ns c.loop-count.count-index c.loop-count-test.false)) c.loop-count.invariant.0) c.requires
 
-pub put_four-half-requires : goal.put_four-half-requires
-put_four-half-requires c =
-    let n = c.args.counts in
-    room (numbers_text (half n)) (numbers_text (other n) ++ (lf ∷ [])) (more (first c.args.out.now c.args.at c.args.counts) c.put_bytes-first.ensures) c.requires
+pub returns-clause-put : goal.returns-clause-put
+returns-clause-put c =
+    let ns = count_numbers c.args.counts in
+    last (same_rest (ap (λ t. t ++ (lf ∷ [])) (numbers_end ns c.loop-count.count-index c.loop-count-test.false)) c.loop-count.invariant.0) c.byte.ensures.put
 
-pub put_four-end-requires : goal.put_four-end-requires
-put_four-end-requires c =
-    room (numbers_text (other c.args.counts)) (lf ∷ []) (more (more (first c.args.out.now c.args.at c.args.counts) c.put_bytes-first.ensures) c.put_four-half.ensures) c.requires
-
-pub put_byte-requires : goal.put_byte-requires
-put_byte-requires c =
-    room_last (lf ∷ []) (more (more (more (first c.args.out.now c.args.at c.args.counts) c.put_bytes-first.ensures) c.put_four-half.ensures) c.put_four-end.ensures) c.requires
-
-pub returns : goal.returns
-returns c =
-    last (more (more (more (first c.args.out.now c.args.at c.args.counts) c.put_bytes-first.ensures) c.put_four-half.ensures) c.put_four-end.ensures) c.put_byte.ensures
+pub returns-clause-same : goal.returns-clause-same
+returns-clause-same c = c.byte.ensures.same ∙ c.loop-count.invariant.1

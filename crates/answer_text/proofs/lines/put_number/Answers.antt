@@ -5,6 +5,6 @@ use Rattle.text.proofs.Midst.{begin, more, last}
 use Rattle.answer_text.specs.AnswerText.{tab}
 use Rattle.answer_text.proofs.lines.put_number.Goals as goal
 
-pub returns : goal.returns
-returns c =
-    last (more (begin c.args.out.now c.args.at (tab ∷ decimal_text c.args.n)) c.put_byte-digits.ensures) c.put_decimal.ensures
+pub returns-clause-put : goal.returns-clause-put
+returns-clause-put c =
+    last (more (begin c.args.w.now.out.now c.args.w.now.at (tab ∷ decimal_text c.args.n)) c.byte.ensures.put) c.decimal.ensures.put

@@ -5,21 +5,21 @@ use Rattle.text.proofs.Midst.{begin, more, room, room_last, last}
 use Rattle.answer_text.specs.AnswerText.{tab, lf, point_text}
 use Rattle.answer_text.proofs.lines.put_point.Goals as goal
 
-pub put_bits-second-requires : goal.put_bits-second-requires
-put_bits-second-requires c =
+pub put_bits-requires : goal.put_bits-requires
+put_bits-requires c =
     room (tab ∷ bits_text c.args.x) ((tab ∷ bits_text c.args.y) ++ (lf ∷ []))
-    (more (begin c.args.out.now c.args.at (point_text c.args.x c.args.y)) c.put_byte-first.ensures) c.requires
+    (more (begin c.args.w.now.out.now c.args.w.now.at (point_text c.args.x c.args.y)) c.byte.ensures.put) c.requires
 
-pub put_bits-end-requires : goal.put_bits-end-requires
-put_bits-end-requires c =
+pub put_bits-requires-2 : goal.put_bits-requires-2
+put_bits-requires-2 c =
     room (tab ∷ bits_text c.args.y) (lf ∷ [])
-    (more (more (begin c.args.out.now c.args.at (point_text c.args.x c.args.y)) c.put_byte-first.ensures) c.put_bits-second.ensures) c.requires
+    (more (more (begin c.args.w.now.out.now c.args.w.now.at (point_text c.args.x c.args.y)) c.byte.ensures.put) c.put_bits.ensures.put) c.requires
 
-pub put_byte-requires : goal.put_byte-requires
-put_byte-requires c =
+pub byte-requires-2 : goal.byte-requires-2
+byte-requires-2 c =
     room_last (lf ∷ [])
-    (more (more (more (begin c.args.out.now c.args.at (point_text c.args.x c.args.y)) c.put_byte-first.ensures) c.put_bits-second.ensures) c.put_bits-end.ensures) c.requires
+    (more (more (more (begin c.args.w.now.out.now c.args.w.now.at (point_text c.args.x c.args.y)) c.byte.ensures.put) c.put_bits.ensures.put) c.put_bits-2.ensures.put) c.requires
 
-pub returns : goal.returns
-returns c =
-    last (more (more (more (begin c.args.out.now c.args.at (point_text c.args.x c.args.y)) c.put_byte-first.ensures) c.put_bits-second.ensures) c.put_bits-end.ensures) c.put_byte.ensures
+pub returns-clause-put : goal.returns-clause-put
+returns-clause-put c =
+    last (more (more (more (begin c.args.w.now.out.now c.args.w.now.at (point_text c.args.x c.args.y)) c.byte.ensures.put) c.put_bits.ensures.put) c.put_bits-2.ensures.put) c.byte-2.ensures.put

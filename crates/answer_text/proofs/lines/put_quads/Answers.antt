@@ -1,48 +1,36 @@
-use mathlib.Core.List.{[], ◌∷◌, map}
-use Prim.Native.Nat.{◌+◌, ◌-◌, ◌*◌}
-use native.Mathlib.Omega.{arith}
-use lib.ListN.{take, drop}
-use Rattle.state.specs.State.{quad_nodes, quads_of}
+use Rattle.std.proofs.Common.{refl, ◌∙◌}
+use mathlib.Core.Path.{sym, ap}
+use mathlib.Core.List.{List, [], ◌∷◌, map}
+use Rattle.std.specs.Slice.Iter.{chunks_exact_rest}
+use Rattle.state.specs.State.{Quad, quad_nodes}
 use Rattle.text.proofs.Midst.{begin, more, room, ended, same_rest}
 use Rattle.answer_text.specs.AnswerText.{line_text, lines_text}
-use Rattle.answer_text.proofs.LineLaws.{quads_begin, quads_next, quads_end}
+use Rattle.answer_text.proofs.LineLaws.{all_quads, quads_begin, quads_next, quads_end}
 use Rattle.answer_text.proofs.lines.put_quads.Goals as goal
 
-pub loop-i-init : goal.loop-i-init
-loop-i-init c =
-    (omega arith, same_rest (quads_begin (113 ∷ []) c.args.quads.now c.args.n) (begin _ _ _))
+pub loop-quad-init : goal.loop-quad-init
+loop-quad-init c =
+    let all = quads_begin c.args.n c.args.quads.now c.requires.n_in_bounds ∙ rw (sym c.chunks_exact-quad-items.ensures.rest) in
+    rw c.into_iter-quad-iterator.ensures.into_iter_gives
+    (c.chunks_exact-quad-items.ensures.size, same_rest (ap (λ (qs : List Quad). lines_text (113 ∷ []) (map quad_nodes qs)) all) (begin _ _ _), refl)
 
-pub overflow_mul-start : goal.overflow_mul-start
-overflow_mul-start c = omega arith
+pub put_line-requires : goal.put_line-requires
+put_line-requires c =
+    let q = c.in-Some.quad.now in
+    let step = c.in-Some.ensures.steps.1 in
+    room (line_text (113 ∷ []) q) (lines_text (113 ∷ []) (map quad_nodes (all_quads (chunks_exact_rest c.next.new.self)))) (same_rest (quads_next (113 ∷ []) _ q _ step.0 (step.1 ∙ c.loop-quad.invariant.0)) c.loop-quad.invariant.1) c.requires.room
 
-pub overflow_add-end : goal.overflow_add-end
-overflow_add-end c = omega arith
+pub loop-quad-preserved : goal.loop-quad-preserved
+loop-quad-preserved c =
+    let q = c.in-Some.quad.now in
+    let step = c.in-Some.ensures.steps in
+    (step.0 ∙ c.loop-quad.invariant.0, more (same_rest (quads_next (113 ∷ []) _ q _ step.1.0 (step.1.1 ∙ c.loop-quad.invariant.0)) c.loop-quad.invariant.1) c.put_line.ensures.put, c.put_line.ensures.same ∙ c.loop-quad.invariant.2)
 
-pub slice_bounds-put_line-count : goal.slice_bounds-put_line-count
-slice_bounds-put_line-count c = omega arith
+pub returns-clause-put : goal.returns-clause-put
+returns-clause-put c =
+    let few = c.in-None.ensures.steps.1.0 in
+    let four = c.loop-quad.invariant.0 in
+    ended (same_rest (quads_end (113 ∷ []) _ (rw four at few)) c.loop-quad.invariant.1)
 
-pub put_line-next-requires : goal.put_line-next-requires
-put_line-next-requires c =
-    let quads = c.args.quads.now in
-    let n = c.args.n in
-    let i = c.loop-i.i in
-    room (line_text (113 ∷ []) (take (i * 4 + 4 - i * 4) (drop (i * 4) quads))) (lines_text (113 ∷ []) (map quad_nodes (quads_of (n - (i + 1)) (drop ((i + 1) * 4) quads))))
-    (same_rest (quads_next (113 ∷ []) quads n i (i * 4 + 4 - i * 4) (omega arith) c.requires.n_in_bounds (omega arith)) c.loop-i.invariant.1) c.requires.room
-
-pub overflow_add-i : goal.overflow_add-i
-overflow_add-i c = omega arith
-
-pub loop-i-smaller : goal.loop-i-smaller
-loop-i-smaller c = omega arith
-
-pub loop-i-preserved : goal.loop-i-preserved
-loop-i-preserved c =
-    let i = c.loop-i.i in
-    (omega arith, more (same_rest (quads_next (113 ∷ []) c.args.quads.now c.args.n i (i * 4 + 4 - i * 4) (omega arith) c.requires.n_in_bounds (omega arith)) c.loop-i.invariant.1) c.put_line-next.ensures)
-
-pub shape_of-out : goal.shape_of-out
-shape_of-out c = c.loop-i.invariant.1.long
-
-pub returns : goal.returns
-returns c =
-    ended (same_rest (quads_end (113 ∷ []) c.args.quads.now c.args.n c.loop-i.i (omega arith)) c.loop-i.invariant.1)
+pub returns-clause-same : goal.returns-clause-same
+returns-clause-same c = c.loop-quad.invariant.2

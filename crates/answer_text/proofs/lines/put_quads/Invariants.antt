@@ -1,14 +1,13 @@
--- `answer_text::lines::put_quads` meets its contract. The invariant: the quads from i on are left. The measure is their number.
+-- `answer_text::lines::put_quads` meets its contract. The invariant: the quads that the iterator has left are left.
+use mathlib.Core.Path.{◌≡◌}
 use mathlib.Core.List.{[], ◌∷◌, map}
-use Prim.Native.Nat.{◌-◌, ◌*◌, ◌≤◌}
-use lib.ListN.{drop}
+use Rattle.std.specs.Slice.Iter.{chunks_exact_rest, chunks_exact_size}
 use Rattle.state.specs.State.{quad_nodes, quads_of}
 use Rattle.text.proofs.Midst.{Midst}
 use Rattle.answer_text.specs.AnswerText.{lines_text}
+use Rattle.text.specs.Writing.{Same}
+use Rattle.answer_text.proofs.LineLaws.{all_quads}
 use Rattle.answer_text.proofs.lines.put_quads.Given as goal
 
-abbrev pub invariant-loop-i : goal.invariant-loop-i
-invariant-loop-i l = (l.i ≤ l.n) × Midst l.initial.out l.at (lines_text (113 ∷ []) (map quad_nodes (quads_of l.n l.quads))) l.out l.next (lines_text (113 ∷ []) (map quad_nodes (quads_of (l.n - l.i) (drop (l.i * 4) l.quads))))
-
-abbrev pub decreases-loop-i : goal.decreases-loop-i
-decreases-loop-i l = l.n - l.i
+abbrev pub invariant-loop-quad : goal.invariant-loop-quad
+invariant-loop-quad l = (chunks_exact_size l.quad-iterator ≡ 4) × Midst l.initial.w.out.now l.initial.w.at (lines_text (113 ∷ []) (map quad_nodes (quads_of l.n l.quads))) l.w.out.now l.w.at (lines_text (113 ∷ []) (map quad_nodes (all_quads (chunks_exact_rest l.quad-iterator)))) × Same l.initial.w l.w

@@ -1,25 +1,28 @@
 -- `calls::making::make_all` meets its contract.
-use Rattle.std.proofs.Common.{rules}
+use Rattle.std.proofs.Common.{◌∙◌, get_or, rules}
 use Rattle.state.specs.State.{Held}
-use Rattle.state.specs.Call.{held}
-use Rattle.input.specs.Job.{Job, job}
+use Rattle.state.specs.Lent.{held_in}
+use Rattle.state.specs.Refusals.{answered}
+use Rattle.input.specs.Job.{Job, job_of}
 use Rattle.calls.specs.Calls.{after}
-use Rattle.calls.proofs.Stepping.{stepped, all_made}
+use Rattle.calls.proofs.Stepping.{letter_is, stepped, all_made}
 use Rattle.calls.proofs.making.make_all.Goals as goal
 
-pub loop-k-preserved : goal.loop-k-preserved
-loop-k-preserved g c =
-    let at_head : Held = held c.loop-k.points c.loop-k.quads c.loop-k.front_nodes c.loop-k.front_lengths c.loop-k.counts in
-    let job_at : Job = job c.args.coords.now c.args.loops.now c.args.h c.args.options in
-    let whole : Held = after job_at c.args.letters.now (held c.args.points.now c.args.quads.now c.args.front_nodes.now c.args.front_lengths.now c.args.start) in
+pub loop-letter-preserved : goal.loop-letter-preserved
+loop-letter-preserved g c =
+    let j : Job = job_of c.args.job.now in
+    let at_head : Held = held_in c.loop-letter.lent c.loop-letter.counts in
+    let whole : Held = after j c.args.letters.now (held_in c.args.lent.now c.args.start) in
+    let k = c.loop-letter.letter-index in
     record {
-      within = search rules;
-      made = stepped job_at c.args.letters.now c.loop-k.k at_head c.make-answer.result _ _ _ _ c.counts_after-counts.result whole c.loop-k-test.true c.make-answer.ensures c.counts_after-counts.ensures c.loop-k.invariant.made;
+      same = search rules;
+      made = stepped j c.args.letters.now k at_head (answered c.make-answer.result) _ _ _ _ c.counts_after-counts.result whole c.loop-letter-test.true
+          (c.make-answer.ensures.left ∙ letter_is j (get_or c.args.letters.now k 0) at_head c.from.result c.from.ensures) c.counts_after-counts.ensures c.loop-letter.invariant.made;
     }
 
 pub returns : goal.returns
 returns g c =
-    let at_head : Held = held c.loop-k.points c.loop-k.quads c.loop-k.front_nodes c.loop-k.front_lengths c.loop-k.counts in
-    let job_at : Job = job c.args.coords.now c.args.loops.now c.args.h c.args.options in
-    let whole : Held = after job_at c.args.letters.now (held c.args.points.now c.args.quads.now c.args.front_nodes.now c.args.front_lengths.now c.args.start) in
-    all_made job_at c.args.letters.now c.loop-k.k at_head whole c.loop-k-test.false c.loop-k.invariant.made
+    let j : Job = job_of c.args.job.now in record {
+      same = c.loop-letter.invariant.same;
+      held = all_made j c.args.letters.now c.loop-letter.letter-index (held_in c.loop-letter.lent c.loop-letter.counts) (after j c.args.letters.now (held_in c.args.lent.now c.args.start)) c.loop-letter-test.false c.loop-letter.invariant.made;
+    }

@@ -12,14 +12,14 @@ begun : (out : List ℕ) (at : ℕ) (n : ℕ) (name : List ℕ) → Going out at
 unfolding count_text
 begun out at n name = start out at (name ∷ decimal_text n ∷ []) refl
 
-pub put_bytes-digits-requires : goal.put_bytes-digits-requires
-put_bytes-digits-requires c =
-    fits (begun c.args.out.now c.args.at c.args.n c.args.name.now) c.requires
+pub bytes-requires : goal.bytes-requires
+bytes-requires c =
+    fits (begun c.args.w.now.out.now c.args.w.now.at c.args.n c.args.name.now) c.requires
 
-pub put_decimal-requires : goal.put_decimal-requires
-put_decimal-requires c =
-    fits (step (begun c.args.out.now c.args.at c.args.n c.args.name.now) c.put_bytes-digits.ensures) c.requires
+pub decimal-requires : goal.decimal-requires
+decimal-requires c =
+    fits (step (begun c.args.w.now.out.now c.args.w.now.at c.args.n c.args.name.now) c.bytes.ensures.put) c.requires
 
-pub returns : goal.returns
-returns c =
-    done (step (step (begun c.args.out.now c.args.at c.args.n c.args.name.now) c.put_bytes-digits.ensures) c.put_decimal.ensures)
+pub returns-clause-put : goal.returns-clause-put
+returns-clause-put c =
+    done (step (step (begun c.args.w.now.out.now c.args.w.now.at c.args.n c.args.name.now) c.bytes.ensures.put) c.decimal.ensures.put)

@@ -13,18 +13,18 @@ begun : (out : List ℕ) (at : ℕ) (counts : Counts) (least : Float) → Going 
 unfolding done_caption
 begun out at counts least = start out at (sizes_text counts ∷ steps_text counts ∷ corner_text counts.quads least ∷ []) refl
 
-pub put_sizes-a1-requires : goal.put_sizes-a1-requires
-put_sizes-a1-requires c =
-    fits (begun c.args.out.now c.args.at c.args.c c.args.least) c.requires
+pub put_sizes-requires : goal.put_sizes-requires
+put_sizes-requires c =
+    fits (begun c.args.w.now.out.now c.args.w.now.at c.args.c c.args.least) c.requires
 
-pub put_steps-a2-requires : goal.put_steps-a2-requires
-put_steps-a2-requires c =
-    fits (step (begun c.args.out.now c.args.at c.args.c c.args.least) c.put_sizes-a1.ensures) c.requires
+pub put_steps-requires : goal.put_steps-requires
+put_steps-requires c =
+    fits (step (begun c.args.w.now.out.now c.args.w.now.at c.args.c c.args.least) c.put_sizes.ensures.put) c.requires
 
 pub put_corner-requires : goal.put_corner-requires
 put_corner-requires c =
-    fits (step (step (begun c.args.out.now c.args.at c.args.c c.args.least) c.put_sizes-a1.ensures) c.put_steps-a2.ensures) c.requires
+    fits (step (step (begun c.args.w.now.out.now c.args.w.now.at c.args.c c.args.least) c.put_sizes.ensures.put) c.put_steps.ensures.put) c.requires
 
-pub returns : goal.returns
-returns c =
-    done (step (step (step (begun c.args.out.now c.args.at c.args.c c.args.least) c.put_sizes-a1.ensures) c.put_steps-a2.ensures) c.put_corner.ensures)
+pub returns-clause-put : goal.returns-clause-put
+returns-clause-put c =
+    done (step (step (step (begun c.args.w.now.out.now c.args.w.now.at c.args.c c.args.least) c.put_sizes.ensures.put) c.put_steps.ensures.put) c.put_corner.ensures.put)

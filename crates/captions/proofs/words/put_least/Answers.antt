@@ -14,14 +14,14 @@ begun : (out : List ℕ) (at : ℕ) (least : Float) → Going out at (least_text
 unfolding least_text
 begun out at least = start out at (ascii ", least corner " ∷ across_text least ∷ []) refl
 
-pub put_bytes-value-requires : goal.put_bytes-value-requires
-put_bytes-value-requires c =
-    fits (begun c.args.out.now c.args.at c.args.least) c.requires
+pub bytes-requires : goal.bytes-requires
+bytes-requires c =
+    fits (begun c.args.w.now.out.now c.args.w.now.at c.args.least) c.requires
 
 pub put_across-requires : goal.put_across-requires
 put_across-requires c =
-    fits (step (begun c.args.out.now c.args.at c.args.least) c.put_bytes-value.ensures) c.requires
+    fits (step (begun c.args.w.now.out.now c.args.w.now.at c.args.least) c.bytes.ensures.put) c.requires
 
-pub returns : goal.returns
-returns c =
-    done (step (step (begun c.args.out.now c.args.at c.args.least) c.put_bytes-value.ensures) c.put_across.ensures)
+pub returns-clause-put : goal.returns-clause-put
+returns-clause-put c =
+    done (step (step (begun c.args.w.now.out.now c.args.w.now.at c.args.least) c.bytes.ensures.put) c.put_across.ensures.put)

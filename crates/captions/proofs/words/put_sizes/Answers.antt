@@ -13,22 +13,22 @@ begun : (out : List ℕ) (at : ℕ) (counts : Counts) → Going out at (sizes_te
 unfolding sizes_text
 begun out at counts = start out at (count_text (ascii "points ") counts.points ∷ count_text (ascii ", quads ") counts.quads ∷ count_text (ascii ", fronts ") counts.fronts ∷ count_text (ascii ", row_quads ") counts.row_quads ∷ []) refl
 
-pub put_count-a1-requires : goal.put_count-a1-requires
-put_count-a1-requires c =
-    fits (begun c.args.out.now c.args.at c.args.c) c.requires
-
-pub put_count-a2-requires : goal.put_count-a2-requires
-put_count-a2-requires c =
-    fits (step (begun c.args.out.now c.args.at c.args.c) c.put_count-a1.ensures) c.requires
-
-pub put_count-a3-requires : goal.put_count-a3-requires
-put_count-a3-requires c =
-    fits (step (step (begun c.args.out.now c.args.at c.args.c) c.put_count-a1.ensures) c.put_count-a2.ensures) c.requires
-
 pub put_count-requires : goal.put_count-requires
 put_count-requires c =
-    fits (step (step (step (begun c.args.out.now c.args.at c.args.c) c.put_count-a1.ensures) c.put_count-a2.ensures) c.put_count-a3.ensures) c.requires
+    fits (begun c.args.w.now.out.now c.args.w.now.at c.args.c) c.requires
 
-pub returns : goal.returns
-returns c =
-    done (step (step (step (step (begun c.args.out.now c.args.at c.args.c) c.put_count-a1.ensures) c.put_count-a2.ensures) c.put_count-a3.ensures) c.put_count.ensures)
+pub put_count-requires-2 : goal.put_count-requires-2
+put_count-requires-2 c =
+    fits (step (begun c.args.w.now.out.now c.args.w.now.at c.args.c) c.put_count.ensures.put) c.requires
+
+pub put_count-requires-3 : goal.put_count-requires-3
+put_count-requires-3 c =
+    fits (step (step (begun c.args.w.now.out.now c.args.w.now.at c.args.c) c.put_count.ensures.put) c.put_count-2.ensures.put) c.requires
+
+pub put_count-requires-4 : goal.put_count-requires-4
+put_count-requires-4 c =
+    fits (step (step (step (begun c.args.w.now.out.now c.args.w.now.at c.args.c) c.put_count.ensures.put) c.put_count-2.ensures.put) c.put_count-3.ensures.put) c.requires
+
+pub returns-clause-put : goal.returns-clause-put
+returns-clause-put c =
+    done (step (step (step (step (begun c.args.w.now.out.now c.args.w.now.at c.args.c) c.put_count.ensures.put) c.put_count-2.ensures.put) c.put_count-3.ensures.put) c.put_count-4.ensures.put)

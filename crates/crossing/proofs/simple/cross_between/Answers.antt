@@ -2,6 +2,6 @@
 use Rattle.crossing.proofs.Right.{not_crossing}
 use Rattle.crossing.proofs.simple.cross_between.Goals as goal
 
-pub returns-then-right_c-right_d : goal.returns-then-right_c-right_d
-returns-then-right_c-right_d c =
-    not_crossing _ _ _ _ _ _ c.requires c.if-right_c-right_d.true
+pub returns-else-right_c-right_d : goal.returns-else-right_c-right_d
+returns-else-right_c-right_d c =
+    rw c.if-right_c-right_d.false (not_crossing _ _ _ _ _ _ c.requires c.if-right_c-right_d.false)

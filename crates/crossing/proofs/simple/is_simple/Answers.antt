@@ -3,10 +3,10 @@ use borrow.Author.Tests.{lt-leb, le-leb}
 use Rattle.rules.specs.Simple.{is_simple}
 use Rattle.crossing.proofs.simple.is_simple.Goals as goal
 
-pub returns-then-n-lt3 : goal.returns-then-n-lt3
+pub returns-then-n-ge3 : goal.returns-then-n-ge3
 unfolding is_simple
-returns-then-n-lt3 c = rw (lt-leb _ _ c.if-n-lt3.true)
+returns-then-n-ge3 c = rw (le-leb _ _ c.if-n-ge3.true, c.sides_cross.ensures)
 
-pub returns : goal.returns
+pub returns-else-n-ge3 : goal.returns-else-n-ge3
 unfolding is_simple
-returns c = rw (le-leb _ _ c.if-n-lt3.false, c.sides_cross.ensures)
+returns-else-n-ge3 c = rw (lt-leb _ _ c.if-n-ge3.false)

@@ -1,7 +1,7 @@
--- `crossing::simple::sides_cross` meets its contract. The invariants: no crossing was found by the definition's search of the sides passed, and of this side with those passed, and the test of the end of the last is kept. The measures are the sides left.
+-- `crossing::simple::sides_cross` meets its contract. The invariants: no crossing was found by the definition's search of the sides passed, and of this side with those passed, and the test of the end of the last is kept.
 use mathlib.Core.Path.{◌≡◌}
 use mathlib.Core.Bool.{false}
-use Prim.Native.Nat.{◌+◌, ◌≤◌, ◌-◌}
+use Prim.Native.Nat.{◌+◌, ◌-◌}
 use Rattle.geometry.specs.Rings.{ring_of, point_at}
 use Rattle.rules.specs.Simple.{search as search_of}
 use Rattle.rules.specs.Simple.{search_side}
@@ -10,13 +10,7 @@ use Rattle.crossing.proofs.simple.sides_cross.Given as goal
 
 abbrev pub invariant-loop-j : goal.invariant-loop-j
 invariant-loop-j l =
-    (l.i + 2 ≤ l.j) × (l.j ≤ l.last) × (l.crossed ≡ false) × ((search_side (ring_of l.ring l.n) l.i (l.j - (l.i + 1)) (search_of (ring_of l.ring l.n) l.i)).crossed ≡ false) × (l.right ≡ right_of l.a l.b (point_at l.ring l.j))
-
-abbrev pub decreases-loop-j : goal.decreases-loop-j
-decreases-loop-j l = l.last - l.j
+    (l.crossed ≡ false) × ((search_side (ring_of l.ring l.n) l.i (l.j - (l.i + 1)) (search_of (ring_of l.ring l.n) l.i)).crossed ≡ false) × (l.right ≡ right_of l.a l.b (point_at l.ring l.j))
 
 abbrev pub invariant-sides : goal.invariant-sides
-invariant-sides l = (l.i + 2 ≤ l.n) × (l.crossed ≡ false) × ((search_of (ring_of l.ring l.n) l.i).crossed ≡ false)
-
-abbrev pub decreases-sides : goal.decreases-sides
-decreases-sides l = l.n - l.i
+invariant-sides l = (l.crossed ≡ false) × ((search_of (ring_of l.ring l.n) l.i).crossed ≡ false)

@@ -1,6 +1,8 @@
 -- `exports::calls::pave_sample` meets its contract.
 use mathlib.Core.Path.{refl}
+use native.Mathlib.Omega.{arith}
 use lib.ListN.{length}
+use Rattle.state.specs.Refusals.{answered}
 use Rattle.state.specs.Call.{Left, lengths_of}
 use Rattle.input.specs.declared.Options.{Options}
 use Rattle.input.specs.Job.{job}
@@ -13,9 +15,9 @@ pub returns-then-counts-ne8 : goal.returns-then-counts-ne8
 returns-then-counts-ne8 c =
     let call : Options → Left = λ o. sample_call (job c.args.coords.now c.args.loop_lengths.now c.args.h o) (lengths_of (length c.args.points.now) (length c.args.quads.now) (length c.args.front_nodes.now) (length c.args.front_lengths.now)) in
     let options : Options = options_of c.args.corner_margin c.args.min_edge_fraction c.args.front_gap c.args.max_row_rounds c.args.seam c.args.corner_limit in
-    job_short call options _ refl _ _ _ _ _ c.args.counts.now c.if-counts-ne8.true c.clear_all.ensures c.clear_counts.ensures
+    job_short call options _ refl _ _ _ _ _ c.args.counts.now c.if-counts-ne8.true (grind arith) c.clear_counts.ensures
 
 pub returns : goal.returns
 returns c =
     let call : Options → Left = λ o. sample_call (job c.args.coords.now c.args.loop_lengths.now c.args.h o) (lengths_of (length c.args.points.now) (length c.args.quads.now) (length c.args.front_nodes.now) (length c.args.front_lengths.now)) in
-    job_answered call _ _ c.options_of-options.ensures _ _ _ _ _ c.args.counts.now c.if-counts-ne8.false _ c.no_counts.ensures _ c.sample-answer.ensures c.put_answer.ensures
+    job_answered call _ _ c.options_of-options.ensures _ _ _ _ _ c.args.counts.now c.if-counts-ne8.false _ c.no_counts.ensures (answered c.sample-answer.result) (grind arith) c.put_answer.ensures

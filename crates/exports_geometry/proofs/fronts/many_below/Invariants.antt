@@ -1,13 +1,7 @@
--- `exports_geometry::fronts::many_below` meets its contract. The invariant: what was found, and the numbers ahead, give the answer. The measure is the numbers left.
-use mathlib.Core.Path.{◌≡◌}
-use mathlib.Core.Bool.{◌&&◌}
-use Prim.Native.Nat.{◌≤◌, ◌-◌}
-use lib.ListN.{length, drop}
+-- `exports_geometry::fronts::many_below` meets its contract. The invariant: what was found, and the numbers ahead, give the answer.
+use Rattle.std.proofs.Common.{◌≡◌, ◌&&◌, drop}
 use Rattle.exports_geometry.specs.Fronts.{all_below}
 use Rattle.exports_geometry.proofs.fronts.many_below.Given as goal
 
-abbrev pub invariant-loop-i : goal.invariant-loop-i
-invariant-loop-i l = (l.i ≤ length l.numbers) × (all_below l.n l.numbers ≡ (l.below && all_below l.n (drop l.i l.numbers)))
-
-abbrev pub decreases-loop-i : goal.decreases-loop-i
-decreases-loop-i l = length l.numbers - l.i
+abbrev pub invariant-loop-m : goal.invariant-loop-m
+invariant-loop-m l = all_below l.n l.numbers ≡ (l.below && all_below l.n (drop l.m-index l.numbers))

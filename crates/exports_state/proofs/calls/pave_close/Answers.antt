@@ -1,5 +1,7 @@
 -- `exports_state::calls::pave_close` meets its contract.
 use mathlib.Core.Path.{refl}
+use native.Mathlib.Omega.{arith}
+use Rattle.state.specs.Refusals.{answered}
 use Rattle.state.specs.State.{Held}
 use Rattle.state.specs.Call.{Left}
 use Rattle.input.specs.declared.Options.{Options}
@@ -18,4 +20,4 @@ returns-then-counts-ne8 c =
 pub returns : goal.returns
 returns c =
     let call : Options → Held → Left = λ o. close_call (job c.args.coords.now c.args.loop_lengths.now c.args.h o) in
-    state_answered call _ _ c.options_of-options.ensures _ _ _ _ _ _ _ _ _ c.if-counts-ne8.false _ c.counts_of-before.ensures _ c.close-answer.ensures c.put_answer.ensures
+    state_answered call _ _ c.options_of-options.ensures _ _ _ _ _ _ _ _ _ c.if-counts-ne8.false _ c.counts_of-before.ensures (answered c.close-answer.result) (grind arith) c.put_answer.ensures

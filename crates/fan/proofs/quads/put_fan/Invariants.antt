@@ -1,7 +1,7 @@
--- `fan::quads::put_fan` meets its contract. The invariant: k of the fan's quads are written. The measure is the quads left.
+-- k of the fan's quads are written.
 use mathlib.Core.Path.{◌≡◌}
 use mathlib.Core.List.{map}
-use Prim.Native.Nat.{◌/◌, ◌≤◌, ◌-◌}
+use Prim.Native.Nat.{◌/◌}
 use lib.ListN.{length}
 use lib.Seq.{sets}
 use Rattle.state.specs.State.{joined, quad_nodes}
@@ -10,7 +10,4 @@ use Rattle.fan_search.specs.Quads.{with_centre}
 use Rattle.fan.proofs.quads.put_fan.Given as goal
 
 abbrev pub invariant-loop-k : goal.invariant-loop-k
-invariant-loop-k l = (l.k ≤ l.m) × (length l.quads ≡ length l.initial.quads) × (l.quads ≡ sets l.initial.quads l.at (joined (map quad_nodes (fan_quads (with_centre l.points l.p) l.nodes (length l.points / 2) l.k))))
-
-abbrev pub decreases-loop-k : goal.decreases-loop-k
-decreases-loop-k l = l.m - l.k
+invariant-loop-k l = l.quads ≡ sets l.initial.quads l.at (joined (map quad_nodes (fan_quads (with_centre l.points l.p) l.nodes (length l.points / 2) l.k)))

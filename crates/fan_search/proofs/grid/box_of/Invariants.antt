@@ -1,14 +1,9 @@
--- `fan_search::grid::box_of` meets its contract. The invariant: the four numbers are the box of the points passed. The measure is the points left.
+-- `b` is the box of the points passed.
 use mathlib.Core.Path.{◌≡◌}
-use Prim.Native.Nat.{◌≤◌, ◌-◌}
-use lib.ListN.{length}
 use Rattle.geometry.specs.Rings.{node_ring}
 use Rattle.rules.specs.Fan.{box}
-use Rattle.fan_search.proofs.Searching.{box_of}
+use Rattle.fan_search.specs.Values.{boxed}
 use Rattle.fan_search.proofs.grid.box_of.Given as goal
 
-abbrev pub invariant-loop-i : goal.invariant-loop-i
-invariant-loop-i l = (l.i ≤ length l.nodes) × (box_of l.left l.low l.right l.high ≡ box (node_ring l.points l.nodes) l.i)
-
-abbrev pub decreases-loop-i : goal.decreases-loop-i
-decreases-loop-i l = length l.nodes - l.i
+abbrev pub invariant-loop-node : goal.invariant-loop-node
+invariant-loop-node l = boxed l.b ≡ box (node_ring l.points l.nodes) l.node-index

@@ -1,32 +1,19 @@
-use Rattle.rules.proofs.Every.{every_none, every_more, every_stops, every_end}
-use Rattle.fan_search.proofs.Fanning.{passes_at}
+use mathlib.Core.Path.{refl, ◌∙◌}
+use Prim.Native.Nat.{◌/◌}
 use native.Mathlib.Omega.{arith}
+use lib.ListN.{length}
+use Rattle.std.proofs.Common.{rules}
+use Rattle.std.proofs.lemmas.Iterator.{YieldsList-from_range}
+use Rattle.std.proofs.lemmas.Iterator.Search.{all_from_yields_List}
+use Rattle.rules.specs.Checks.{quad_passes}
+use Rattle.rules.specs.Closing.{turned_quad}
+use Rattle.fan_search.specs.Quads.{with_centre, plain_quad}
+use Rattle.fan_search.proofs.Fanning.{every_passes}
 use Rattle.fan_search.proofs.quads.all_pass.Goals as goal
 
-pub loop-k-init : goal.loop-k-init
-loop-k-init c = (omega arith, every_none _)
-
-pub quad_passes-requires : goal.quad_passes-requires
-quad_passes-requires c = record {
-  k_in_bounds = (c.loop-k-test.true, c.requires.nodes_len.0, c.requires.nodes_len.1);
-  by_index = c.requires.by_index;
-}
-
-pub returns-then-not-quad_passes : goal.returns-then-not-quad_passes
-returns-then-not-quad_passes c =
-    let l = c.loop-k-test.true in
-    every_stops _ _ _ l (passes_at _ _ _ _ _ _ l c.quad_passes.ensures (c.if-not-quad_passes.true))
-
-pub overflow_step-k : goal.overflow_step-k
-overflow_step-k c = omega arith
-
-pub loop-k-smaller : goal.loop-k-smaller
-loop-k-smaller c = omega arith
-
-pub loop-k-preserved : goal.loop-k-preserved
-loop-k-preserved c =
-    let l = c.loop-k-test.true in
-    (omega arith, every_more _ _ c.loop-k.invariant.1 (passes_at _ _ _ _ _ _ l c.quad_passes.ensures (c.if-not-quad_passes.false)))
-
 pub returns : goal.returns
-returns c = every_end _ _ _ c.loop-k.invariant.1 (omega arith)
+returns c =
+    let pts = with_centre c.args.points.now c.args.p in
+    let centre = length c.args.points.now / 2 in
+    all_from_yields_List (λ k. quad_passes c.args.limit pts (turned_quad pts (plain_quad c.args.nodes.now centre k))) _ _ _ c.all.ensures.ran (YieldsList-from_range 0 (length c.args.nodes.now / 2) (length c.args.nodes.now / 2) refl (omega arith)) (λ x b q k. search rules)
+    ∙ every_passes c.args.limit pts c.args.nodes.now centre (length c.args.nodes.now / 2)

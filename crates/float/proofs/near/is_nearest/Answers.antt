@@ -1,13 +1,7 @@
 -- `float::near::is_nearest` meets its contract.
-use Rattle.std.proofs.Common.{ℕ, ◌*◌, ◌<◌, subst, arith, ltb-true}
-use Rattle.float.proofs.Words.{high_low, low_low, settled}
+use Rattle.std.proofs.Common.{ℕ, ◌*◌, ◌<◌, subst, ltb-true}
+use Rattle.float.proofs.Words.{settled}
 use Rattle.float.proofs.near.is_nearest.Goals as goal
-
-pub overflow_mul-l : goal.overflow_mul-l
-overflow_mul-l c = omega (arith, low_low c.args.g)
-
-pub overflow_mul-h : goal.overflow_mul-h
-overflow_mul-h c = omega (arith, high_low c.args.g c.requires.2)
 
 pub returns : goal.returns
 returns c = λ t. settled c.args.a c.args.g c.wrapping_sub_u64-over.result c.wrapping_sub_u64-apart.result c.requires.1 c.requires.2 c.requires.3 c.requires.4

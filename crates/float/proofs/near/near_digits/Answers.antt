@@ -32,9 +32,6 @@ least t =
     let o : 1 ≤ t / 4503599627370496 + 1 = omega arith in
     mul-le-mul r o
 
-pub overflow_mul-t : goal.overflow_mul-t
-overflow_mul-t c = omega (arith, most c.args.t c.requires)
-
 -- what the tests tell of the guess g and its digits
 tests : (t : ℕ) (g : Float) → t < 2 ^ 53 → T (fits binary64 g) → to_bits binary64 g / 2 ^ 52 ≡ 1023
     → lt (mul binary64 g g) (mul binary64 (of_bits binary64 (t + 4607182418800017408)) (of_bits binary64 4607182418800017440)) ≡ true
@@ -67,7 +64,3 @@ is_nearest-requires c =
     let t = c.args.t in
     let g = c.guess-g.result in
     tests t g c.requires (subst T (sym c.guess-g.type_inv) tt) c.if-bits-eq1023.true c.if-square-y.true c.if-y-square.true
-
-pub returns-then-is_nearest : goal.returns-then-is_nearest
-returns-then-is_nearest c =
-    ((is_nearest-requires (let at_then_bits_eq1023 : goal.Then-bits-eq1023 = search in at_then_bits_eq1023)).2, λ _. c.is_nearest.ensures c.if-is_nearest.true)

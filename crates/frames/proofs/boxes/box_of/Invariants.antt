@@ -1,14 +1,9 @@
--- `frames::boxes::box_of` meets its contract. The invariant: the four numbers are the box of the points passed. The measure is the points left.
-use mathlib.Core.Path.{◌≡◌}
-use Prim.Native.Nat.{◌-◌, ◌/◌, ◌≤◌}
-use lib.ListN.{length}
+-- `frames::boxes::box_of` meets its contract. The invariant: `b` is the box of the points passed.
+use Rattle.std.proofs.Common.{◌≡◌, ◌/◌, length}
 use Rattle.geometry.specs.Rings.{ring_of}
 use Rattle.rules.specs.Fan.{box}
-use Rattle.fan_search.proofs.Searching.{box_of}
+use Rattle.fan_search.specs.Values.{boxed}
 use Rattle.frames.proofs.boxes.box_of.Given as goal
 
 abbrev pub invariant-loop-i : goal.invariant-loop-i
-invariant-loop-i l = (l.i ≤ length l.coords / 2) × (box_of l.left l.low l.right l.high ≡ box (ring_of l.coords (length l.coords / 2)) l.i)
-
-abbrev pub decreases-loop-i : goal.decreases-loop-i
-decreases-loop-i l = length l.coords / 2 - l.i
+invariant-loop-i l = boxed l.b ≡ box (ring_of l.coords (length l.coords / 2)) l.i

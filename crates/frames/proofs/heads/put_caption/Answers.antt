@@ -15,26 +15,26 @@ begun : (out : List ℕ) (at : ℕ) (b : Box) (m : Float) → Going out at (capt
 unfolding caption_text
 begun out at b m = start out at (ascii "<text x=\"" ∷ middle_text (boxed b) ∷ ascii "\" y=\"" ∷ under_text (boxed b) m ∷ ascii "\">" ∷ []) refl
 
-pub put_bytes-a1-requires : goal.put_bytes-a1-requires
-put_bytes-a1-requires c =
-    fits (begun c.args.out.now c.args.at c.args.b c.args.m) c.requires
+pub bytes-requires : goal.bytes-requires
+bytes-requires c =
+    fits (begun c.args.w.now.out.now c.args.w.now.at c.args.b c.args.m) c.requires
 
-pub put_middle-a2-requires : goal.put_middle-a2-requires
-put_middle-a2-requires c =
-    fits (step (begun c.args.out.now c.args.at c.args.b c.args.m) c.put_bytes-a1.ensures) c.requires
+pub put_middle-requires : goal.put_middle-requires
+put_middle-requires c =
+    fits (step (begun c.args.w.now.out.now c.args.w.now.at c.args.b c.args.m) c.bytes.ensures.put) c.requires
 
-pub put_bytes-a3-requires : goal.put_bytes-a3-requires
-put_bytes-a3-requires c =
-    fits (step (step (begun c.args.out.now c.args.at c.args.b c.args.m) c.put_bytes-a1.ensures) c.put_middle-a2.ensures) c.requires
+pub bytes-requires-2 : goal.bytes-requires-2
+bytes-requires-2 c =
+    fits (step (step (begun c.args.w.now.out.now c.args.w.now.at c.args.b c.args.m) c.bytes.ensures.put) c.put_middle.ensures.put) c.requires
 
-pub put_under-a4-requires : goal.put_under-a4-requires
-put_under-a4-requires c =
-    fits (step (step (step (begun c.args.out.now c.args.at c.args.b c.args.m) c.put_bytes-a1.ensures) c.put_middle-a2.ensures) c.put_bytes-a3.ensures) c.requires
+pub put_under-requires : goal.put_under-requires
+put_under-requires c =
+    fits (step (step (step (begun c.args.w.now.out.now c.args.w.now.at c.args.b c.args.m) c.bytes.ensures.put) c.put_middle.ensures.put) c.bytes-2.ensures.put) c.requires
 
-pub put_bytes-requires : goal.put_bytes-requires
-put_bytes-requires c =
-    fits (step (step (step (step (begun c.args.out.now c.args.at c.args.b c.args.m) c.put_bytes-a1.ensures) c.put_middle-a2.ensures) c.put_bytes-a3.ensures) c.put_under-a4.ensures) c.requires
+pub bytes-requires-3 : goal.bytes-requires-3
+bytes-requires-3 c =
+    fits (step (step (step (step (begun c.args.w.now.out.now c.args.w.now.at c.args.b c.args.m) c.bytes.ensures.put) c.put_middle.ensures.put) c.bytes-2.ensures.put) c.put_under.ensures.put) c.requires
 
-pub returns : goal.returns
-returns c =
-    done (step (step (step (step (step (begun c.args.out.now c.args.at c.args.b c.args.m) c.put_bytes-a1.ensures) c.put_middle-a2.ensures) c.put_bytes-a3.ensures) c.put_under-a4.ensures) c.put_bytes.ensures)
+pub returns-clause-put : goal.returns-clause-put
+returns-clause-put c =
+    done (step (step (step (step (step (begun c.args.w.now.out.now c.args.w.now.at c.args.b c.args.m) c.bytes.ensures.put) c.put_middle.ensures.put) c.bytes-2.ensures.put) c.put_under.ensures.put) c.bytes-3.ensures.put)

@@ -2,12 +2,12 @@
 use Rattle.frames.specs.Views.{darker}
 use Rattle.frames.proofs.heads.put_darker.Goals as goal
 
-pub put_bytes-requires : goal.put_bytes-requires
+pub bytes-requires : goal.bytes-requires
 unfolding darker
-put_bytes-requires c =
+bytes-requires c =
     c.requires
 
-pub returns : goal.returns
+pub returns-clause-put : goal.returns-clause-put
 unfolding darker
-returns c =
-    c.put_bytes.ensures
+returns-clause-put c =
+    c.bytes.ensures.put

@@ -15,26 +15,26 @@ begun : (out : List ℕ) (at : ℕ) (b : Box) (m : Float) → Going out at (head
 unfolding head_text
 begun out at b m = start out at (opening ∷ view_text (boxed b) m ∷ ascii "\" font-size=\"" ∷ size_text (boxed b) m ∷ style ∷ []) refl
 
-pub put_opening-a1-requires : goal.put_opening-a1-requires
-put_opening-a1-requires c =
-    fits (begun c.args.out.now c.args.at c.args.b c.args.m) c.requires
+pub put_opening-requires : goal.put_opening-requires
+put_opening-requires c =
+    fits (begun c.args.w.now.out.now c.args.w.now.at c.args.b c.args.m) c.requires
 
-pub put_view-a2-requires : goal.put_view-a2-requires
-put_view-a2-requires c =
-    fits (step (begun c.args.out.now c.args.at c.args.b c.args.m) c.put_opening-a1.ensures) c.requires
+pub put_view-requires : goal.put_view-requires
+put_view-requires c =
+    fits (step (begun c.args.w.now.out.now c.args.w.now.at c.args.b c.args.m) c.put_opening.ensures.put) c.requires
 
-pub put_bytes-a3-requires : goal.put_bytes-a3-requires
-put_bytes-a3-requires c =
-    fits (step (step (begun c.args.out.now c.args.at c.args.b c.args.m) c.put_opening-a1.ensures) c.put_view-a2.ensures) c.requires
+pub bytes-requires : goal.bytes-requires
+bytes-requires c =
+    fits (step (step (begun c.args.w.now.out.now c.args.w.now.at c.args.b c.args.m) c.put_opening.ensures.put) c.put_view.ensures.put) c.requires
 
-pub put_size-a4-requires : goal.put_size-a4-requires
-put_size-a4-requires c =
-    fits (step (step (step (begun c.args.out.now c.args.at c.args.b c.args.m) c.put_opening-a1.ensures) c.put_view-a2.ensures) c.put_bytes-a3.ensures) c.requires
+pub put_size-requires : goal.put_size-requires
+put_size-requires c =
+    fits (step (step (step (begun c.args.w.now.out.now c.args.w.now.at c.args.b c.args.m) c.put_opening.ensures.put) c.put_view.ensures.put) c.bytes.ensures.put) c.requires
 
 pub put_style-requires : goal.put_style-requires
 put_style-requires c =
-    fits (step (step (step (step (begun c.args.out.now c.args.at c.args.b c.args.m) c.put_opening-a1.ensures) c.put_view-a2.ensures) c.put_bytes-a3.ensures) c.put_size-a4.ensures) c.requires
+    fits (step (step (step (step (begun c.args.w.now.out.now c.args.w.now.at c.args.b c.args.m) c.put_opening.ensures.put) c.put_view.ensures.put) c.bytes.ensures.put) c.put_size.ensures.put) c.requires
 
-pub returns : goal.returns
-returns c =
-    done (step (step (step (step (step (begun c.args.out.now c.args.at c.args.b c.args.m) c.put_opening-a1.ensures) c.put_view-a2.ensures) c.put_bytes-a3.ensures) c.put_size-a4.ensures) c.put_style.ensures)
+pub returns-clause-put : goal.returns-clause-put
+returns-clause-put c =
+    done (step (step (step (step (step (begun c.args.w.now.out.now c.args.w.now.at c.args.b c.args.m) c.put_opening.ensures.put) c.put_view.ensures.put) c.bytes.ensures.put) c.put_size.ensures.put) c.put_style.ensures.put)

@@ -2,12 +2,12 @@
 use Rattle.frames.specs.Views.{lighter}
 use Rattle.frames.proofs.heads.put_lighter.Goals as goal
 
-pub put_bytes-requires : goal.put_bytes-requires
+pub bytes-requires : goal.bytes-requires
 unfolding lighter
-put_bytes-requires c =
+bytes-requires c =
     c.requires
 
-pub returns : goal.returns
+pub returns-clause-put : goal.returns-clause-put
 unfolding lighter
-returns c =
-    c.put_bytes.ensures
+returns-clause-put c =
+    c.bytes.ensures.put

@@ -7,6 +7,6 @@ pub put_across-requires : goal.put_across-requires
 put_across-requires c =
     rw (middle_is c.args.b _ half_is) c.requires
 
-pub returns : goal.returns
-returns c =
-    rw (← middle_is c.args.b _ half_is) c.put_across.ensures
+pub returns-clause-put : goal.returns-clause-put
+returns-clause-put c =
+    rw (← middle_is c.args.b _ half_is) c.put_across.ensures.put

@@ -4,12 +4,12 @@ use Rattle.frames.specs.Views.{caption_text}
 use Rattle.frames.specs.Views.{plain_caption}
 use Rattle.frames.proofs.heads.put_plain_caption.Goals as goal
 
-pub put_bytes-requires : goal.put_bytes-requires
+pub bytes-requires : goal.bytes-requires
 unfolding plain_caption caption_text joined
-put_bytes-requires c =
+bytes-requires c =
     c.requires
 
-pub returns : goal.returns
+pub returns-clause-put : goal.returns-clause-put
 unfolding plain_caption caption_text joined
-returns c =
-    c.put_bytes.ensures
+returns-clause-put c =
+    c.bytes.ensures.put

@@ -13,26 +13,26 @@ begun : (out : List ℕ) (at : ℕ) → Going out at plain_head out at (opening 
 unfolding plain_head head_text
 begun out at = start out at (opening ∷ ascii "0 0 720 40" ∷ ascii "\" font-size=\"" ∷ ascii "10" ∷ style ∷ []) refl
 
-pub put_opening-a1-requires : goal.put_opening-a1-requires
-put_opening-a1-requires c =
-    fits (begun c.args.out.now c.args.at) c.requires
+pub put_opening-requires : goal.put_opening-requires
+put_opening-requires c =
+    fits (begun c.args.w.now.out.now c.args.w.now.at) c.requires
 
-pub put_bytes-a2-requires : goal.put_bytes-a2-requires
-put_bytes-a2-requires c =
-    fits (step (begun c.args.out.now c.args.at) c.put_opening-a1.ensures) c.requires
+pub bytes-requires : goal.bytes-requires
+bytes-requires c =
+    fits (step (begun c.args.w.now.out.now c.args.w.now.at) c.put_opening.ensures.put) c.requires
 
-pub put_bytes-a3-requires : goal.put_bytes-a3-requires
-put_bytes-a3-requires c =
-    fits (step (step (begun c.args.out.now c.args.at) c.put_opening-a1.ensures) c.put_bytes-a2.ensures) c.requires
+pub bytes-requires-2 : goal.bytes-requires-2
+bytes-requires-2 c =
+    fits (step (step (begun c.args.w.now.out.now c.args.w.now.at) c.put_opening.ensures.put) c.bytes.ensures.put) c.requires
 
-pub put_bytes-a4-requires : goal.put_bytes-a4-requires
-put_bytes-a4-requires c =
-    fits (step (step (step (begun c.args.out.now c.args.at) c.put_opening-a1.ensures) c.put_bytes-a2.ensures) c.put_bytes-a3.ensures) c.requires
+pub bytes-requires-3 : goal.bytes-requires-3
+bytes-requires-3 c =
+    fits (step (step (step (begun c.args.w.now.out.now c.args.w.now.at) c.put_opening.ensures.put) c.bytes.ensures.put) c.bytes-2.ensures.put) c.requires
 
 pub put_style-requires : goal.put_style-requires
 put_style-requires c =
-    fits (step (step (step (step (begun c.args.out.now c.args.at) c.put_opening-a1.ensures) c.put_bytes-a2.ensures) c.put_bytes-a3.ensures) c.put_bytes-a4.ensures) c.requires
+    fits (step (step (step (step (begun c.args.w.now.out.now c.args.w.now.at) c.put_opening.ensures.put) c.bytes.ensures.put) c.bytes-2.ensures.put) c.bytes-3.ensures.put) c.requires
 
-pub returns : goal.returns
-returns c =
-    done (step (step (step (step (step (begun c.args.out.now c.args.at) c.put_opening-a1.ensures) c.put_bytes-a2.ensures) c.put_bytes-a3.ensures) c.put_bytes-a4.ensures) c.put_style.ensures)
+pub returns-clause-put : goal.returns-clause-put
+returns-clause-put c =
+    done (step (step (step (step (step (begun c.args.w.now.out.now c.args.w.now.at) c.put_opening.ensures.put) c.bytes.ensures.put) c.bytes-2.ensures.put) c.bytes-3.ensures.put) c.put_style.ensures.put)

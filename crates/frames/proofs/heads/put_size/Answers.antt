@@ -7,6 +7,6 @@ pub put_across-requires : goal.put_across-requires
 put_across-requires c =
     rw (size_is c.args.b c.args.m _ seventy_two_is) c.requires
 
-pub returns : goal.returns
-returns c =
-    rw (← size_is c.args.b c.args.m _ seventy_two_is) c.put_across.ensures
+pub returns-clause-put : goal.returns-clause-put
+returns-clause-put c =
+    rw (← size_is c.args.b c.args.m _ seventy_two_is) c.put_across.ensures.put

@@ -2,12 +2,12 @@
 use Rattle.frames.specs.Views.{strokes}
 use Rattle.frames.proofs.heads.put_strokes.Goals as goal
 
-pub put_bytes-requires : goal.put_bytes-requires
+pub bytes-requires : goal.bytes-requires
 unfolding strokes
-put_bytes-requires c =
+bytes-requires c =
     c.requires
 
-pub returns : goal.returns
+pub returns-clause-put : goal.returns-clause-put
 unfolding strokes
-returns c =
-    c.put_bytes.ensures
+returns-clause-put c =
+    c.bytes.ensures.put

@@ -11,22 +11,22 @@ begun : (out : List ℕ) (at : ℕ) → Going out at style out at (paper ∷ dar
 unfolding style
 begun out at = start out at (paper ∷ darker ∷ lighter ∷ strokes ∷ []) refl
 
-pub put_paper-a1-requires : goal.put_paper-a1-requires
-put_paper-a1-requires c =
-    fits (begun c.args.out.now c.args.at) c.requires
+pub put_paper-requires : goal.put_paper-requires
+put_paper-requires c =
+    fits (begun c.args.w.now.out.now c.args.w.now.at) c.requires
 
-pub put_darker-a2-requires : goal.put_darker-a2-requires
-put_darker-a2-requires c =
-    fits (step (begun c.args.out.now c.args.at) c.put_paper-a1.ensures) c.requires
+pub put_darker-requires : goal.put_darker-requires
+put_darker-requires c =
+    fits (step (begun c.args.w.now.out.now c.args.w.now.at) c.put_paper.ensures.put) c.requires
 
-pub put_lighter-a3-requires : goal.put_lighter-a3-requires
-put_lighter-a3-requires c =
-    fits (step (step (begun c.args.out.now c.args.at) c.put_paper-a1.ensures) c.put_darker-a2.ensures) c.requires
+pub put_lighter-requires : goal.put_lighter-requires
+put_lighter-requires c =
+    fits (step (step (begun c.args.w.now.out.now c.args.w.now.at) c.put_paper.ensures.put) c.put_darker.ensures.put) c.requires
 
 pub put_strokes-requires : goal.put_strokes-requires
 put_strokes-requires c =
-    fits (step (step (step (begun c.args.out.now c.args.at) c.put_paper-a1.ensures) c.put_darker-a2.ensures) c.put_lighter-a3.ensures) c.requires
+    fits (step (step (step (begun c.args.w.now.out.now c.args.w.now.at) c.put_paper.ensures.put) c.put_darker.ensures.put) c.put_lighter.ensures.put) c.requires
 
-pub returns : goal.returns
-returns c =
-    done (step (step (step (step (begun c.args.out.now c.args.at) c.put_paper-a1.ensures) c.put_darker-a2.ensures) c.put_lighter-a3.ensures) c.put_strokes.ensures)
+pub returns-clause-put : goal.returns-clause-put
+returns-clause-put c =
+    done (step (step (step (step (begun c.args.w.now.out.now c.args.w.now.at) c.put_paper.ensures.put) c.put_darker.ensures.put) c.put_lighter.ensures.put) c.put_strokes.ensures.put)

@@ -7,6 +7,6 @@ pub put_up-requires : goal.put_up-requires
 put_up-requires c =
     rw (under_is c.args.b c.args.m _ half_is) c.requires
 
-pub returns : goal.returns
-returns c =
-    rw (← under_is c.args.b c.args.m _ half_is) c.put_up.ensures
+pub returns-clause-put : goal.returns-clause-put
+returns-clause-put c =
+    rw (← under_is c.args.b c.args.m _ half_is) c.put_up.ensures.put

@@ -17,34 +17,34 @@ begun : (out : List ℕ) (at : ℕ) (b : Box) (m : Float) → Going out at (view
 unfolding view_text
 begun out at b m = start out at (across_text (b.left ⊖ m) ∷ ascii " " ∷ up_text (b.high ⊕ m) ∷ ascii " " ∷ across_text (view_width (boxed b) m) ∷ ascii " " ∷ across_text (view_height (boxed b) m) ∷ []) refl
 
-pub put_across-a1-requires : goal.put_across-a1-requires
-put_across-a1-requires c =
-    fits (begun c.args.out.now c.args.at c.args.b c.args.m) c.requires
-
-pub put_byte-a2-requires : goal.put_byte-a2-requires
-put_byte-a2-requires c =
-    fits (step (begun c.args.out.now c.args.at c.args.b c.args.m) c.put_across-a1.ensures) c.requires
-
-pub put_up-a3-requires : goal.put_up-a3-requires
-put_up-a3-requires c =
-    fits (step (step (begun c.args.out.now c.args.at c.args.b c.args.m) c.put_across-a1.ensures) c.put_byte-a2.ensures) c.requires
-
-pub put_byte-a4-requires : goal.put_byte-a4-requires
-put_byte-a4-requires c =
-    fits (step (step (step (begun c.args.out.now c.args.at c.args.b c.args.m) c.put_across-a1.ensures) c.put_byte-a2.ensures) c.put_up-a3.ensures) c.requires
-
-pub put_across-a5-requires : goal.put_across-a5-requires
-put_across-a5-requires c =
-    fits (step (step (step (step (begun c.args.out.now c.args.at c.args.b c.args.m) c.put_across-a1.ensures) c.put_byte-a2.ensures) c.put_up-a3.ensures) c.put_byte-a4.ensures) c.requires
-
-pub put_byte-a6-requires : goal.put_byte-a6-requires
-put_byte-a6-requires c =
-    fits (step (step (step (step (step (begun c.args.out.now c.args.at c.args.b c.args.m) c.put_across-a1.ensures) c.put_byte-a2.ensures) c.put_up-a3.ensures) c.put_byte-a4.ensures) c.put_across-a5.ensures) c.requires
-
 pub put_across-requires : goal.put_across-requires
 put_across-requires c =
-    fits (step (step (step (step (step (step (begun c.args.out.now c.args.at c.args.b c.args.m) c.put_across-a1.ensures) c.put_byte-a2.ensures) c.put_up-a3.ensures) c.put_byte-a4.ensures) c.put_across-a5.ensures) c.put_byte-a6.ensures) c.requires
+    fits (begun c.args.w.now.out.now c.args.w.now.at c.args.b c.args.m) c.requires
 
-pub returns : goal.returns
-returns c =
-    done (step (step (step (step (step (step (step (begun c.args.out.now c.args.at c.args.b c.args.m) c.put_across-a1.ensures) c.put_byte-a2.ensures) c.put_up-a3.ensures) c.put_byte-a4.ensures) c.put_across-a5.ensures) c.put_byte-a6.ensures) c.put_across.ensures)
+pub byte-requires : goal.byte-requires
+byte-requires c =
+    fits (step (begun c.args.w.now.out.now c.args.w.now.at c.args.b c.args.m) c.put_across.ensures.put) c.requires
+
+pub put_up-requires : goal.put_up-requires
+put_up-requires c =
+    fits (step (step (begun c.args.w.now.out.now c.args.w.now.at c.args.b c.args.m) c.put_across.ensures.put) c.byte.ensures.put) c.requires
+
+pub byte-requires-2 : goal.byte-requires-2
+byte-requires-2 c =
+    fits (step (step (step (begun c.args.w.now.out.now c.args.w.now.at c.args.b c.args.m) c.put_across.ensures.put) c.byte.ensures.put) c.put_up.ensures.put) c.requires
+
+pub put_across-requires-2 : goal.put_across-requires-2
+put_across-requires-2 c =
+    fits (step (step (step (step (begun c.args.w.now.out.now c.args.w.now.at c.args.b c.args.m) c.put_across.ensures.put) c.byte.ensures.put) c.put_up.ensures.put) c.byte-2.ensures.put) c.requires
+
+pub byte-requires-3 : goal.byte-requires-3
+byte-requires-3 c =
+    fits (step (step (step (step (step (begun c.args.w.now.out.now c.args.w.now.at c.args.b c.args.m) c.put_across.ensures.put) c.byte.ensures.put) c.put_up.ensures.put) c.byte-2.ensures.put) c.put_across-2.ensures.put) c.requires
+
+pub put_across-requires-3 : goal.put_across-requires-3
+put_across-requires-3 c =
+    fits (step (step (step (step (step (step (begun c.args.w.now.out.now c.args.w.now.at c.args.b c.args.m) c.put_across.ensures.put) c.byte.ensures.put) c.put_up.ensures.put) c.byte-2.ensures.put) c.put_across-2.ensures.put) c.byte-3.ensures.put) c.requires
+
+pub returns-clause-put : goal.returns-clause-put
+returns-clause-put c =
+    done (step (step (step (step (step (step (step (begun c.args.w.now.out.now c.args.w.now.at c.args.b c.args.m) c.put_across.ensures.put) c.byte.ensures.put) c.put_up.ensures.put) c.byte-2.ensures.put) c.put_across-2.ensures.put) c.byte-3.ensures.put) c.put_across-3.ensures.put)

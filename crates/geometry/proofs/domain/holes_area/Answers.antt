@@ -1,37 +1,25 @@
-use Prim.Native.Nat.{◌*◌, ◌≤◌}
-use lib.ListN.{length}
-use native.Mathlib.Omega.{arith}
 use Rattle.float.proofs.Literals.{zero_is}
-use Rattle.geometry.proofs.Outline.{fewer, holes_on, holes_over, room_first, room_holes}
+use Rattle.geometry.proofs.Outline.{holes_on, holes_over, loops_from, no_loops_from, room_behind, room_first}
 use Rattle.geometry.proofs.domain.holes_area.Goals as goal
 
-pub loop-lengths-init : goal.loop-lengths-init
-loop-lengths-init c = (c.requires, rw zero_is)
+pub loop-n-init : goal.loop-n-init
+loop-n-init c = (c.requires, rw zero_is)
 
 pub signed_area-requires : goal.signed_area-requires
 signed_area-requires c =
-    let room : c.wide-n.result * 2 ≤ length c.loop-lengths.ahead.now = (let some = c.loop-lengths-test.true in
-    room_first c.loop-lengths.ahead.now c.loop-lengths.lengths.now c.wide-n.ensures (λ none. omega arith) c.loop-lengths.invariant.0) in
-    room
+    room_first _ (loops_from c.args.loops.now c.loop-n.n-index _ c.loop-n-test.true c.wide-n.ensures) c.loop-n.invariant.0
 
-pub rest-behind-requires : goal.rest-behind-requires
-rest-behind-requires c =
-    let room : c.wide-n.result * 2 ≤ length c.loop-lengths.ahead.now = (let some = c.loop-lengths-test.true in
-    room_first c.loop-lengths.ahead.now c.loop-lengths.lengths.now c.wide-n.ensures (λ none. omega arith) c.loop-lengths.invariant.0) in
-    room
+pub rest-ahead-requires : goal.rest-ahead-requires
+rest-ahead-requires c =
+    room_first _ (loops_from c.args.loops.now c.loop-n.n-index _ c.loop-n-test.true c.wide-n.ensures) c.loop-n.invariant.0
 
-pub loop-lengths-smaller : goal.loop-lengths-smaller
-loop-lengths-smaller c =
-    fewer c.loop-lengths.lengths.now c.loop-lengths-test.true c.later-more.ensures
-
-pub loop-lengths-preserved : goal.loop-lengths-preserved
-loop-lengths-preserved c =
-    let some = c.loop-lengths-test.true in
-    let ahead = c.loop-lengths.ahead.now in
-    let lengths = c.loop-lengths.lengths.now in (
-      room_holes ahead lengths c.wide-n.ensures (λ none. omega arith) c.loop-lengths.invariant.0 c.rest-behind.ensures c.later-more.ensures,
-      holes_on ahead lengths c.wide-n.ensures (λ none. omega arith) c.loop-lengths.invariant.0 c.rest-behind.ensures c.later-more.ensures _ _ _ _ c.loop-lengths.invariant.1 c.signed_area.ensures c.absolute-sum.ensures,
-    )
+pub loop-n-preserved : goal.loop-n-preserved
+loop-n-preserved c =
+    let first = loops_from c.args.loops.now c.loop-n.n-index _ c.loop-n-test.true c.wide-n.ensures in
+    let room = c.loop-n.invariant.0 in
+    let part = c.rest-ahead.ensures in
+    (room_behind _ first room part, holes_on _ first room part _ _ _ _ c.loop-n.invariant.1 c.signed_area.ensures c.absolute-sum.ensures)
 
 pub returns : goal.returns
-returns c = let d = c.loop-lengths in holes_over d.ahead.now d.lengths.now c.loop-lengths-test.false _ _ d.invariant.1
+returns c =
+    holes_over _ (no_loops_from c.args.loops.now c.loop-n.n-index c.loop-n-test.false) _ _ c.loop-n.invariant.1

@@ -16,41 +16,14 @@ no-area r e = zero_is ∙ sym half_zero_is ∙ rw e
 pub returns-then-n-eq0 : goal.returns-then-n-eq0
 returns-then-n-eq0 c = no-area _ c.if-n-eq0.true
 
-pub point_at-first-requires : goal.point_at-first-requires
-point_at-first-requires c = omega (arith, c.if-n-eq0.false)
-
 pub loop-i-init : goal.loop-i-init
 loop-i-init c = (omega arith, omega (arith, c.if-n-eq0.false), none_added _ _ _ c.point_at-first.ensures zero_is)
-
-pub overflow_add-i : goal.overflow_add-i
-overflow_add-i c = omega arith
-
-pub point_at-b-requires : goal.point_at-b-requires
-point_at-b-requires c = omega arith
-
-pub overflow_add-i-in-loop-i : goal.overflow_add-i-in-loop-i
-overflow_add-i-in-loop-i c = omega arith
-
-pub point_at-c-requires : goal.point_at-c-requires
-point_at-c-requires c = omega arith
-
-pub overflow_add-i-in-loop-i-2 : goal.overflow_add-i-in-loop-i-2
-overflow_add-i-in-loop-i-2 c = omega arith
-
-pub point_at-d-requires : goal.point_at-d-requires
-point_at-d-requires c = omega arith
-
-pub overflow_add-i-in-loop-i-3 : goal.overflow_add-i-in-loop-i-3
-overflow_add-i-in-loop-i-3 c = omega arith
-
-pub loop-i-smaller : goal.loop-i-smaller
-loop-i-smaller c = omega arith
 
 pub loop-i-preserved : goal.loop-i-preserved
 loop-i-preserved c =
     let inv = c.loop-i.invariant in
     let i = c.loop-i.i in
-    let one = one_added inv.2 inv.0 _ _ _ refl (omega arith) c.point_at-b.ensures c.area_term.ensures in
+    let one = one_added inv.2 inv.0 (i + 1) _ _ refl (omega arith) c.point_at-b.ensures c.area_term.ensures in
     let two = one_added one (omega arith) (i + 2) _ _ (omega arith) (omega arith) c.point_at-c.ensures c.area_term-in-loop-i.ensures in
     (omega arith, omega arith, one_added two (omega arith) _ _ _ (omega arith) (omega arith) c.point_at-d.ensures c.area_term-in-loop-i-2.ensures)
 
@@ -60,25 +33,12 @@ returns-then-i-n c =
     let inv = c.loop-i.invariant in
     rw (two_is, all_added inv.2 inv.0 _ _ c.if-i-n.true c.point_at-first.ensures c.area_term-then-i-n.ensures)
 
-pub loop-i-2-init : goal.loop-i-2-init
-loop-i-2-init c = c.loop-i.invariant
-
-pub point_at-b-requires-in-loop-i-2 : goal.point_at-b-requires-in-loop-i-2
-point_at-b-requires-in-loop-i-2 c = omega arith
-
-pub overflow_add-i-in-loop-i-2-2 : goal.overflow_add-i-in-loop-i-2-2
-overflow_add-i-in-loop-i-2-2 c = omega arith
-
-pub loop-i-2-smaller : goal.loop-i-2-smaller
-loop-i-2-smaller c = omega arith
-
-pub loop-i-2-preserved : goal.loop-i-2-preserved
-loop-i-2-preserved c =
-    let inv = c.loop-i-2.invariant in
-    (omega arith, omega arith, one_added inv.2 inv.0 _ _ _ refl c.loop-i-2-test.true c.point_at-b-in-loop-i-2.ensures c.area_term-sum.ensures)
+pub loop-j-preserved : goal.loop-j-preserved
+loop-j-preserved c =
+    one_added c.loop-j.invariant (omega arith) _ _ _ refl c.loop-j-test.true c.point_at-b-in-loop-j.ensures c.area_term-sum.ensures
 
 pub returns : goal.returns
 unfolding signed_area
 returns c =
-    let inv = c.loop-i-2.invariant in
-    rw (two_is, all_added inv.2 inv.0 _ _ (omega arith) c.point_at-first.ensures c.area_term-2.ensures)
+    let j = c.loop-j.auto.j-end (omega arith) in
+    rw (two_is, all_added c.loop-j.invariant (omega arith) _ _ (omega arith) c.point_at-first.ensures c.area_term-2.ensures)

@@ -2,25 +2,26 @@
 use mathlib.Core.Path.{◌∙◌, ap}
 use lib.ListN.{length}
 use Rattle.state.specs.State.{Held, Lengths, zeros}
-use Rattle.state.specs.Call.{held, lengths_of}
-use Rattle.sampling.proofs.Calling.{same_lengths}
+use Rattle.state.specs.Lent.{held_in, lengths_in}
+use Rattle.state.specs.Call.{held}
+use Rattle.state.proofs.Lending.{lent_long}
 use Rattle.job.proofs.Paving.{cleared, state_refused, state_done}
 use Rattle.job.proofs.closed.close_job.Goals as goal
 
-pub returns-in-Refused : goal.returns-in-Refused
-returns-in-Refused c =
-    let given : Held = held c.args.points.now c.args.quads.now c.args.front_nodes.now c.args.front_lengths.now c.args.counts in
-    let lengths_at : Lengths = lengths_of (length c.args.points.now) (length c.args.quads.now) (length c.args.front_nodes.now) (length c.args.front_lengths.now) in
+pub returns-in-Err-clause-left : goal.returns-in-Err-clause-left
+returns-in-Err-clause-left c =
+    let given : Held = held_in c.args.lent.now c.args.counts in
+    let lengths_at : Lengths = lengths_in c.args.lent.now in
     let closed = c.close_small_fronts in
     cleared lengths_at _ _
-    (state_refused given _ _ _ (rw c.in-Refused.is at closed.ensures)) _
-    (c.clear_all.ensures
-    ∙ ap zeros (same_lengths _ _ _ _ (length c.args.points.now) (length c.args.quads.now) (length c.args.front_nodes.now) (length c.args.front_lengths.now) closed.auto.points closed.auto.quads closed.auto.front_nodes closed.auto.front_lengths))
+    (state_refused given _ _ _ (rw c.in-Err.is at closed.ensures.left)) _
+    (c.clear.ensures.cleared
+    ∙ ap zeros (lent_long closed.ensures.same))
 
-pub returns-in-Done : goal.returns-in-Done
-returns-in-Done c =
-    let given : Held = held c.args.points.now c.args.quads.now c.args.front_nodes.now c.args.front_lengths.now c.args.counts in
-    let lengths_at : Lengths = lengths_of (length c.args.points.now) (length c.args.quads.now) (length c.args.front_nodes.now) (length c.args.front_lengths.now) in
+pub returns-in-Ok-clause-left : goal.returns-in-Ok-clause-left
+returns-in-Ok-clause-left c =
+    let given : Held = held_in c.args.lent.now c.args.counts in
+    let lengths_at : Lengths = lengths_in c.args.lent.now in
     let closed = c.close_small_fronts in
-    state_done given _ lengths_at _ (held closed.new.points closed.new.quads closed.new.front_nodes closed.new.front_lengths c.args.counts)
-    (rw c.in-Done.is at closed.ensures)
+    state_done given _ lengths_at _ (held_in closed.new.lent c.args.counts)
+    (rw c.in-Ok.is at closed.ensures.left)

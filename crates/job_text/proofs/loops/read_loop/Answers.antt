@@ -3,49 +3,24 @@ use native.Mathlib.Omega.{arith}
 use Rattle.job_text.proofs.Points.{Line, line, no_line}
 use Rattle.job_text.proofs.Following.{left-start, left_step, left_done}
 use Rattle.job_text.proofs.loops.read_loop.Goals as goal
+use Rattle.job_text.proofs.loops.read_loop.Goals.{In-Some}
 
-pub loop-x-init : goal.loop-x-init
-loop-x-init c =
-    (refl, left-start c.args.text.now c.args.at c.args.pairs c.args.coords.now c.requires.0)
+point : (c : In-Some) → Line c.args.text.now c.loop-line.next c.in-Some.line
+point c = line _ _ c.loop-line.invariant.1.within.1 _ c.in-Some.ensures
 
-pub read_at-requires : goal.read_at-requires
-read_at-requires c = c.loop-x.invariant.1.within.1
+pub loop-line-init : goal.loop-line-init
+loop-line-init c = (refl, left-start c.args.text.now c.args.at c.args.pairs c.args.coords.now c.requires.0)
 
-pub shape_of-coords-in_default : goal.shape_of-coords-in_default
-shape_of-coords-in_default c =
-    c.loop-x.invariant.0
+pub loop-line-smaller : goal.loop-line-smaller
+loop-line-smaller c = let w = (point (goal.at.loop-line-smaller c).In-Some).within in omega arith
 
-pub returns-in_default : goal.returns-in_default
-returns-in_default c =
-    let none_left = no_line _ c.loop-x.next _ c.read_at.ensures c.in_default.is in
-    left_done c.args.text.now c.args.at c.args.pairs c.args.coords.now c.loop-x.coords c.loop-x.next c.loop-x.count c.loop-x.invariant.1 none_left
+pub loop-line-preserved : goal.loop-line-preserved
+loop-line-preserved c = (
+  c.store_point.auto.coords ∙ c.loop-line.invariant.0,
+  left_step c.args.text.now c.args.at c.args.pairs c.args.coords.now c.loop-line.coords c.loop-line.next c.loop-line.count c.loop-line.invariant.1 (point (goal.at.loop-line-preserved c).In-Some) _ c.store_point.ensures,
+)
 
-pub overflow_add-pairs : goal.overflow_add-pairs
-overflow_add-pairs c =
-    let w = c.loop-x.invariant.1.within in
-    let p = c.requires.1 in
-    omega arith
-
-pub store_point-requires : goal.store_point-requires
-store_point-requires c =
-    c.loop-x.invariant.0 ∙ c.requires.2
-
-pub overflow_add-count : goal.overflow_add-count
-overflow_add-count c =
-    let point : (Line c.args.text.now c.loop-x.next c.in-Is.x c.in-Is.y c.in-Is.behind) = line _ c.loop-x.next _ c.read_at.ensures c.loop-x.invariant.1.within.1 _ _ _ c.in-Is.is in
-    let w = c.loop-x.invariant.1.within in
-    let v = (point).within in
-    omega arith
-
-pub loop-x-smaller : goal.loop-x-smaller
-loop-x-smaller c =
-    let point : (Line c.args.text.now c.loop-x.next c.in-Is.x c.in-Is.y c.in-Is.behind) = line _ c.loop-x.next _ c.read_at.ensures c.loop-x.invariant.1.within.1 _ _ _ c.in-Is.is in
-    let v = point.within in
-    omega arith
-
-pub loop-x-preserved : goal.loop-x-preserved
-loop-x-preserved c =
-    let point : (Line c.args.text.now c.loop-x.next c.in-Is.x c.in-Is.y c.in-Is.behind) = line _ c.loop-x.next _ c.read_at.ensures c.loop-x.invariant.1.within.1 _ _ _ c.in-Is.is in (
-      c.store_point.auto.coords ∙ c.loop-x.invariant.0,
-      left_step c.args.text.now c.args.at c.args.pairs c.args.coords.now c.loop-x.coords c.loop-x.next c.loop-x.count c.loop-x.invariant.1 point _ c.store_point.ensures,
-    )
+pub returns : goal.returns
+returns c =
+    let none_left = no_line c.args.text.now c.loop-line.next c.in_default.ensures in
+    left_done c.args.text.now c.args.at c.args.pairs c.args.coords.now c.loop-line.coords c.loop-line.next c.loop-line.count c.loop-line.invariant.1 none_left

@@ -5,8 +5,8 @@ use lib.ListN.{length}
 use Rattle.job_text.proofs.Following.{Left}
 use Rattle.job_text.proofs.loops.read_loop.Given as goal
 
-abbrev pub invariant-loop-x : goal.invariant-loop-x
-invariant-loop-x l = (length l.coords ≡ length l.initial.coords) × Left l.text l.at l.pairs l.initial.coords l.coords l.next l.count
+abbrev pub invariant-loop-line : goal.invariant-loop-line
+invariant-loop-line l = (length l.coords ≡ length l.initial.coords) × Left l.text l.at l.pairs l.initial.coords l.coords l.next l.count
 
-abbrev pub decreases-loop-x : goal.decreases-loop-x
-decreases-loop-x l = length l.text - l.next
+abbrev pub decreases-loop-line : goal.decreases-loop-line
+decreases-loop-line l = length l.text - l.next

@@ -1,12 +1,6 @@
 -- `pair_counts::sides::higher` meets its contract.
-use borrow.Author.Tests.{lt-ltb, le-ltb}
-use Rattle.pair_counts.specs.Sides as specs
+use Rattle.pair_counts.proofs.Ordered.{higher_is}
 use Rattle.pair_counts.proofs.sides.higher.Goals as goal
 
-pub returns-then-b-a : goal.returns-then-b-a
-unfolding specs.higher
-returns-then-b-a c = rw (lt-ltb _ _ c.if-b-a.true)
-
-pub returns-else-b-a : goal.returns-else-b-a
-unfolding specs.higher
-returns-else-b-a c = rw (le-ltb _ _ c.if-b-a.false)
+pub returns : goal.returns
+returns c = rw c.max.ensures (higher_is c.args.a c.args.b)

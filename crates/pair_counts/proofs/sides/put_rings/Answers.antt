@@ -1,12 +1,11 @@
-use mathlib.Core.Path.{◌≡◌, refl, ◌∙◌}
+use mathlib.Core.Path.{◌≡◌}
 use mathlib.Core.List.{List}
 use Prim.Native.Nat.{ℕ, ◌+◌, ◌-◌, ◌<◌, ◌≤◌}
 use native.Mathlib.Omega.{arith}
 use lib.ListN.{length, get_or, take}
 use Rattle.geometry.specs.Domain.{sum_of}
-use Rattle.state.proofs.Cutting.{total_all}
 use Rattle.pair_counts.specs.Sides.{lower, higher}
-use Rattle.pair_counts.proofs.Filling.{sum_none, rings-start, Next, ring_within, ring_long, start_more, rings_step, rings_end}
+use Rattle.pair_counts.proofs.Filling.{sum_none, rings-start, Next, ring_within, ring_long, start_more, rings_step}
 use Rattle.pair_counts.proofs.sides.put_rings.Goals as goal
 
 -- the ring that is written next
@@ -14,69 +13,41 @@ next_ring : {lengths nodes : List ℕ} {i start n : ℕ} → i < length lengths 
     → Next lengths nodes i start n (start + n - start)
 next_ring within fits starts is = record { within = within; fits = fits; starts = starts; is = is; size = omega arith }
 
-pub loop-i-init : goal.loop-i-init
-loop-i-init c =
+pub loop-n-init : goal.loop-n-init
+loop-n-init c =
     let lengths = c.args.lengths.now in
     let nodes = c.args.nodes.now in
-    (omega arith, sum_none, refl, refl, rings-start lower lengths nodes c.args.lows.now c.args.at, rings-start higher lengths nodes c.args.highs.now c.args.at)
+    (sum_none, rings-start lower lengths nodes c.args.lows.now c.args.at, rings-start higher lengths nodes c.args.highs.now c.args.at)
 
 pub overflow_add-end : goal.overflow_add-end
 overflow_add-end c =
-    let w = ring_within (next_ring c.loop-i-test.true c.requires.lengths_in_bounds c.loop-i.invariant.1 c.wide.ensures) in omega arith
+    let w = ring_within (next_ring c.loop-n-test.true c.requires.lengths_in_bounds c.loop-n.invariant.0 c.wide.ensures) in omega arith
 
 pub overflow_add-at : goal.overflow_add-at
 overflow_add-at c =
-    let w = ring_within (next_ring c.loop-i-test.true c.requires.lengths_in_bounds c.loop-i.invariant.1 c.wide.ensures) in omega arith
+    let w = ring_within (next_ring c.loop-n-test.true c.requires.lengths_in_bounds c.loop-n.invariant.0 c.wide.ensures) in omega arith
 
 pub offset_bounds-nodes-start : goal.offset_bounds-nodes-start
 offset_bounds-nodes-start c =
-    let w = ring_within (next_ring c.loop-i-test.true c.requires.lengths_in_bounds c.loop-i.invariant.1 c.wide.ensures) in omega arith
+    let w = ring_within (next_ring c.loop-n-test.true c.requires.lengths_in_bounds c.loop-n.invariant.0 c.wide.ensures) in omega arith
 
 pub slice_bounds-put_ring-end : goal.slice_bounds-put_ring-end
 slice_bounds-put_ring-end c =
-    let w = ring_within (next_ring c.loop-i-test.true c.requires.lengths_in_bounds c.loop-i.invariant.1 c.wide.ensures) in omega arith
+    let w = ring_within (next_ring c.loop-n-test.true c.requires.lengths_in_bounds c.loop-n.invariant.0 c.wide.ensures) in omega arith
 
 pub put_ring-requires : goal.put_ring-requires
 put_ring-requires c =
-    let next = next_ring c.loop-i-test.true c.requires.lengths_in_bounds c.loop-i.invariant.1 c.wide.ensures in
+    let next = next_ring c.loop-n-test.true c.requires.lengths_in_bounds c.loop-n.invariant.0 c.wide.ensures in
     let w = ring_within next in
     let r = ring_long next in
     (omega arith, omega arith)
 
-pub loop-i-preserved : goal.loop-i-preserved
-loop-i-preserved c =
-    let next = next_ring c.loop-i-test.true c.requires.lengths_in_bounds c.loop-i.invariant.1 c.wide.ensures in
-    let l = c.loop-i in
+pub loop-n-preserved : goal.loop-n-preserved
+loop-n-preserved c =
+    let next = next_ring c.loop-n-test.true c.requires.lengths_in_bounds c.loop-n.invariant.0 c.wide.ensures in
+    let l = c.loop-n in
     let at = c.args.at in (
-      omega arith,
       start_more next,
-      c.put_ring.auto.lows ∙ l.invariant.2,
-      c.put_ring.auto.highs ∙ l.invariant.3,
-      rings_step next lower l.lows c.args.lows.now _ at l.invariant.4 c.put_ring.ensures.lows_after,
-      rings_step next higher l.highs c.args.highs.now _ at l.invariant.5 c.put_ring.ensures.highs_after,
+      rings_step next lower l.lows c.args.lows.now _ at l.invariant.1 c.put_ring.ensures.lows_after,
+      rings_step next higher l.highs c.args.highs.now _ at l.invariant.2 c.put_ring.ensures.highs_after,
     )
-
-pub overflow_add-result : goal.overflow_add-result
-overflow_add-result c =
-    let l = c.loop-i in
-    let s = l.invariant.1 ∙ total_all c.args.lengths.now l.i (omega arith) in
-    omega arith
-
-pub shape_of-lows : goal.shape_of-lows
-shape_of-lows c = c.loop-i.invariant.2
-
-pub shape_of-highs : goal.shape_of-highs
-shape_of-highs c = c.loop-i.invariant.3
-
-pub returns : goal.returns
-returns c =
-    let l = c.loop-i in
-    let lengths = c.args.lengths.now in
-    let nodes = c.args.nodes.now in
-    let at = c.args.at in
-    let i : l.i ≡ length lengths = omega arith in
-    let s = l.invariant.1 ∙ total_all lengths l.i i in record {
-      value = omega arith;
-      lows_after = rings_end lower lengths nodes l.lows c.args.lows.now at l.i l.start i l.invariant.4;
-      highs_after = rings_end higher lengths nodes l.highs c.args.highs.now at l.i l.start i l.invariant.5;
-    }

@@ -1,51 +1,17 @@
-use mathlib.Core.Path.{refl, sym, ◌∙◌}
-use Prim.Native.Nat.{◌<◌}
+use mathlib.Core.Path.{◌∙◌}
 use native.Mathlib.Omega.{arith}
-use Rattle.state.specs.Limits.{point_limit}
-use Rattle.pair_counts.proofs.Walking.{turn_small, turn_falls}
+use Rattle.pair_counts.proofs.Walking.{first_small}
 use Rattle.pair_counts.proofs.Turns.{clear-turn, clear_end}
 use Rattle.pair_counts.proofs.tally.clear.Goals as goal
 
-pub loop-place-init : goal.loop-place-init
-loop-place-init c =
-    record { walk = c.requires.walk; long = c.requires.tally_len; zeros = c.requires.by_index }
+pub bounds-tally-wide : goal.bounds-tally-wide
+bounds-tally-wide c =
+    let small = first_small _ _ _ c.loop-node.node-iterator.walk c.in-Some.ensures.steps in
+    omega (arith, c.wide.ensures, c.loop-node.auto.tally, c.requires.tally_len)
 
-pub overflow_sub-i : goal.overflow_sub-i
-overflow_sub-i c = omega arith
-
-pub offset_bounds-highs-i : goal.offset_bounds-highs-i
-offset_bounds-highs-i c = omega arith
-
-pub bounds-highs-i : goal.bounds-highs-i
-bounds-highs-i c = omega arith
-
-pub offset_bounds-tally-node : goal.offset_bounds-tally-node
-offset_bounds-tally-node c =
-    let node-small : c.wide-node.result < point_limit = turn_small _ _ c.loop-place.place c.wide-node.result _ c.loop-place.invariant.walk c.loop-place-test.true c.wide-node.ensures refl in
-    let s = node-small in omega arith
-
-pub bounds-tally-node : goal.bounds-tally-node
-bounds-tally-node c =
-    let node-small : c.wide-node.result < point_limit = turn_small _ _ c.loop-place.place c.wide-node.result _ c.loop-place.invariant.walk c.loop-place-test.true c.wide-node.ensures refl in
-    let s = node-small in omega arith
-
-pub offset_bounds-behind-i : goal.offset_bounds-behind-i
-offset_bounds-behind-i c = omega arith
-
-pub bounds-behind-i : goal.bounds-behind-i
-bounds-behind-i c = omega arith
-
-pub loop-place-smaller : goal.loop-place-smaller
-loop-place-smaller c =
-    turn_falls _ _ c.loop-place.place c.wide-node.result _ c.loop-place.invariant.walk c.loop-place-test.true c.wide-node.ensures c.wide-place.ensures
-
-pub loop-place-preserved : goal.loop-place-preserved
-loop-place-preserved c =
-    clear-turn c.args.highs.now c.args.behind.now c.args.at c.loop-place.place c.wide-node.result _ c.loop-place.tally c.loop-place-test.true c.wide-node.ensures c.wide-place.ensures c.loop-place.invariant
-
-pub shape_of-tally : goal.shape_of-tally
-shape_of-tally c =
-    c.loop-place.invariant.long ∙ sym c.requires.tally_len
+pub loop-node-preserved : goal.loop-node-preserved
+loop-node-preserved c =
+    rw c.wide.ensures (clear-turn _ c.loop-node.tally c.in-Some.ensures.steps (c.loop-node.auto.tally ∙ c.requires.tally_len) (first_small _ _ _ c.loop-node.node-iterator.walk c.in-Some.ensures.steps) c.loop-node.invariant)
 
 pub returns : goal.returns
-returns c = clear_end _ _ c.loop-place.place c.loop-place.tally c.loop-place.invariant c.loop-place-test.false
+returns c = clear_end _ c.loop-node.tally (c.loop-node.auto.tally ∙ c.requires.tally_len) c.loop-node.invariant c.in-None.ensures.steps.0

@@ -1,65 +1,37 @@
-use mathlib.Core.Path.{refl, sym, ◌∙◌}
+use mathlib.Core.Path.{◌≡◌, ◌∙◌}
 use Prim.Native.Nat.{◌<◌}
+use lib.ListN.{length}
 use native.Mathlib.Omega.{arith}
 use Rattle.state.specs.Limits.{point_limit}
 use Rattle.pair_counts.proofs.Tallies.{zeros_long}
-use Rattle.pair_counts.proofs.Walking.{turn_small, turn_falls}
-use Rattle.pair_counts.proofs.Turns.{count_start, count_few, count_turn, count_end}
+use Rattle.pair_counts.proofs.Walking.{chain_few, first_small}
+use Rattle.pair_counts.proofs.Turns.{count_end, count_start, count_turn}
 use Rattle.pair_counts.proofs.tally.count.Goals as goal
 
-pub loop-place-init : goal.loop-place-init
-loop-place-init c =
-    count_start _ _ c.args.at c.args.tally.now c.requires.walk c.requires.tally_value
+pub loop-node-init : goal.loop-node-init
+loop-node-init c = rw c.into_iter-node-iterator.ensures.into_iter_gives (count_start _ c.args.tally.now c.requires)
 
-pub overflow_sub-i : goal.overflow_sub-i
-overflow_sub-i c = omega arith
-
-pub offset_bounds-highs-i : goal.offset_bounds-highs-i
-offset_bounds-highs-i c = omega arith
-
-pub bounds-highs-i : goal.bounds-highs-i
-bounds-highs-i c = omega arith
-
-pub offset_bounds-tally-node : goal.offset_bounds-tally-node
-offset_bounds-tally-node c =
-    let node-small : c.wide-node.result < point_limit = turn_small _ _ c.loop-place.place c.wide-node.result _ c.loop-place.invariant.walk c.loop-place-test.true c.wide-node.ensures refl in
-    let s = node-small in omega arith
-
-pub bounds-tally-node : goal.bounds-tally-node
-bounds-tally-node c =
-    let node-small : c.wide-node.result < point_limit = turn_small _ _ c.loop-place.place c.wide-node.result _ c.loop-place.invariant.walk c.loop-place-test.true c.wide-node.ensures refl in
-    let s = node-small in omega arith
+pub bounds-tally-wide : goal.bounds-tally-wide
+bounds-tally-wide c =
+    let small = first_small _ _ _ c.loop-node.node-iterator.walk c.in-Some.ensures.steps in
+    let long : length c.loop-node.tally ≡ point_limit = c.loop-node.auto.tally ∙ zeros_long point_limit c.args.tally.now c.requires in
+    omega (arith, c.wide.ensures)
 
 pub overflow_add-tally : goal.overflow_add-tally
 overflow_add-tally c =
-    let node-small : c.wide-node.result < point_limit = turn_small _ _ c.loop-place.place c.wide-node.result _ c.loop-place.invariant.walk c.loop-place-test.true c.wide-node.ensures refl in
-    let w = c.requires.walk in
-    let f = count_few _ _ c.args.at c.loop-place.place c.loop-place.tally c.loop-place.invariant (omega arith) c.wide-node.result node-small in
-    omega arith
+    let small : c.wide.result < point_limit = rw c.wide.ensures (first_small _ _ _ c.loop-node.node-iterator.walk c.in-Some.ensures.steps) in
+    omega (arith, c.loop-node.invariant c.wide.result small, chain_few _ _ _ c.args.chain.walk c.wide.result)
 
-pub bounds-tally-node-in-loop-place : goal.bounds-tally-node-in-loop-place
-bounds-tally-node-in-loop-place c =
-    let node-small : c.wide-node.result < point_limit = turn_small _ _ c.loop-place.place c.wide-node.result _ c.loop-place.invariant.walk c.loop-place-test.true c.wide-node.ensures refl in
-    let s = node-small in omega arith
+pub bounds-tally-wide-in-loop-node : goal.bounds-tally-wide-in-loop-node
+bounds-tally-wide-in-loop-node c =
+    let small = first_small _ _ _ c.loop-node.node-iterator.walk c.in-Some.ensures.steps in
+    let long : length c.loop-node.tally ≡ point_limit = c.loop-node.auto.tally ∙ zeros_long point_limit c.args.tally.now c.requires in
+    omega (arith, c.wide.ensures)
 
-pub offset_bounds-behind-i : goal.offset_bounds-behind-i
-offset_bounds-behind-i c = omega arith
-
-pub bounds-behind-i : goal.bounds-behind-i
-bounds-behind-i c = omega arith
-
-pub loop-place-smaller : goal.loop-place-smaller
-loop-place-smaller c =
-    turn_falls _ _ c.loop-place.place c.wide-node.result _ c.loop-place.invariant.walk c.loop-place-test.true c.wide-node.ensures c.wide-place.ensures
-
-pub loop-place-preserved : goal.loop-place-preserved
-loop-place-preserved c =
-    count_turn c.args.highs.now c.args.behind.now c.args.at c.loop-place.place c.wide-node.result _ c.loop-place.tally c.loop-place-test.true c.wide-node.ensures c.wide-place.ensures c.loop-place.invariant
-
-pub shape_of-tally : goal.shape_of-tally
-shape_of-tally c =
-    c.loop-place.invariant.long ∙ sym (zeros_long point_limit c.args.tally.now c.requires.tally_value)
+pub loop-node-preserved : goal.loop-node-preserved
+loop-node-preserved c =
+    let long : length c.loop-node.tally ≡ point_limit = c.loop-node.auto.tally ∙ zeros_long point_limit c.args.tally.now c.requires in
+    rw c.wide.ensures (count_turn _ _ c.loop-node.tally c.in-Some.ensures.steps long (first_small _ _ _ c.loop-node.node-iterator.walk c.in-Some.ensures.steps) c.loop-node.invariant)
 
 pub returns : goal.returns
-returns c =
-    count_end _ _ c.args.at c.loop-place.place c.loop-place.tally c.loop-place.invariant c.loop-place-test.false
+returns c = count_end _ _ c.loop-node.tally c.loop-node.invariant c.in-None.ensures.steps.0

@@ -1,193 +1,62 @@
-use mathlib.Core.Path.{◌≡◌, sym, ◌∙◌, ap}
-use Prim.Native.Nat.{◌-◌, ◌≤◌}
+-- `passes::pass::one_pass` meets its contract.
+use mathlib.Core.Bool.{true≢false}
+use denote.Enum.Bare.{same_true}
+use Rattle.std.proofs.Common.{rules, sym, refl, ◌≡◌, ◌∙◌}
+use Rattle.state.specs.declared.refusal.Refusal.TheVariants.{Full}
+use Rattle.state.specs.contracts.refusal.Refusal.{the_type}
 use native.Mathlib.Omega.{arith}
-use lib.ListN.{length, take, length-take}
-use lib.Seq.{length-take-le}
-use Rattle.state.specs.Limits.{front_limit}
-use Rattle.state.specs.State.{Held, reading}
-use Rattle.state.specs.Call.{held}
-use Rattle.state.specs.Sound.{Sound, sizes_of}
-use Rattle.state.proofs.Reading.{fits, sound_counted}
-use Rattle.input.specs.Job.{Job, job}
-use Rattle.rules.specs.Passes.{pass_order}
-use Rattle.row.proofs.Stepping.{read_below}
-use Rattle.passes.proofs.Rows.{rowed_more, rowed_full, rowed_all, order_read, order_long, order_below, pass_begins, pass_full, pass_done}
+use Rattle.state.specs.State.{Held}
+use Rattle.state.specs.Lent.{Same, held_in}
+use Rattle.state.proofs.Lending.{same_again}
+use Rattle.input.specs.Job.{job_of}
+use Rattle.passes.proofs.Rows.{rowed_done, rowed_refused, rowed_full, rowed_all, order_read, order_long, order_below, pass_begins, pass_full, pass_done}
 use Rattle.passes.proofs.pass.one_pass.Goals as goal
+use Rattle.passes.proofs.pass.one_pass.Goals.{in-Ok, in-Err+else-eq}
 
-pub overflow_mul-end : goal.overflow_mul-end
-overflow_mul-end c =
-    let given : Held = held c.args.points.now c.args.quads.now c.args.front_nodes.now c.args.front_lengths.now c.args.counts in
-    let sound : Sound given = c.requires.sound in
-    let s = sound in omega arith
+pub loop-li-init : goal.loop-li-init
+loop-li-init c =
+    let given : Held = held_in c.args.lent.now c.args.counts in
+    (pass_begins (job_of c.args.job.now) given c.begun-c.result c.begun-c.ensures _ c.requires.sound c.requires.clean, record { points = refl; quads = refl; front_nodes = refl; front_lengths = refl; points_long = refl; quads_long = refl; front_nodes_long = refl; front_lengths_long = refl })
 
-pub slice_bounds-pass_order-end : goal.slice_bounds-pass_order-end
-slice_bounds-pass_order-end c =
-    let given : Held = held c.args.points.now c.args.quads.now c.args.front_nodes.now c.args.front_lengths.now c.args.counts in
-    let sound : Sound given = c.requires.sound in
-    let s = sound in omega arith
+pub next_row-answer-requires-clause-li_lt_fronts : goal.next_row-answer-requires-clause-li_lt_fronts
+next_row-answer-requires-clause-li_lt_fronts c =
+    let given : Held = held_in c.args.lent.now c.args.counts in
+    let found = order_read given c.requires.sound c.order_on-order.result c.order_on-order.ensures in
+    let long = order_long given c.requires.sound c.order_on-order.result found in
+    let below = order_below given c.requires.sound c.order_on-order.result found c.loop-li.li-index (omega arith) in
+    (rw c.loop-li.invariant.0.fronts below, c.requires.passes_begun_bound.1)
 
-pub slice_bounds-pass_order-end-2 : goal.slice_bounds-pass_order-end-2
-slice_bounds-pass_order-end-2 c =
-    let given : Held = held c.args.points.now c.args.quads.now c.args.front_nodes.now c.args.front_lengths.now c.args.counts in
-    let sound : Sound given = c.requires.sound in
-    let s = sound in sym (length-take-le _ c.args.points.now (omega arith))
+pub loop-li-preserved : goal.loop-li-preserved
+loop-li-preserved c =
+    let given : Held = held_in c.args.lent.now c.args.counts in
+    let found = order_read given c.requires.sound c.order_on-order.result c.order_on-order.ensures in
+    let long = order_long given c.requires.sound c.order_on-order.result found in
+    let same : Same c.args.lent.now c.next_row-answer.new.lent = same_again c.loop-li.invariant.1 c.next_row-answer.ensures.same in
+    elim c.match-answer.branch [
+      | in-Ok w ↦ (rw w.c-is (rowed_done _ _ _ _ long _ _ c.loop-li.invariant.0 (omega arith) _ _ c.next_row-answer.ensures.left w.in-Ok.is), same)
+      | in-Err+else-eq w ↦ (rw w.c-is (rowed_refused _ _ _ _ long _ _ c.loop-li.invariant.0 (omega arith) _ _ c.next_row-answer.ensures.left w.in-Err.is (λ q. absurd (true≢false (rw q at (sym w.eq.ensures) ∙ w.if-eq.false)))), same)
+    ]
 
-pub slice_bounds-pass_order-end-3 : goal.slice_bounds-pass_order-end-3
-slice_bounds-pass_order-end-3 c =
-    let given : Held = held c.args.points.now c.args.quads.now c.args.front_nodes.now c.args.front_lengths.now c.args.counts in
-    let sound : Sound given = c.requires.sound in
-    let s = sound in omega arith
+pub returns-then-eq-clause-passed : goal.returns-then-eq-clause-passed
+returns-then-eq-clause-passed c =
+    let given : Held = held_in c.args.lent.now c.args.counts in
+    let found = order_read given c.requires.sound c.order_on-order.result c.order_on-order.ensures in
+    let long = order_long given c.requires.sound c.order_on-order.result found in
+    let full : c.in-Err.refusal ≡ Full = same_true the_type (search rules) _ _ (sym c.eq.ensures ∙ c.if-eq.true) in
+    rw full
+    (pass_full (job_of c.args.job.now) given c.begun-c.result c.begun-c.ensures _ found given
+    (rowed_full _ _ _ _ long _ _ c.loop-li.invariant.0 (omega arith) _ _ c.next_row-answer.ensures.left (rw full at c.in-Err.is)))
 
-pub slice_bounds-pass_order-end-4 : goal.slice_bounds-pass_order-end-4
-slice_bounds-pass_order-end-4 c =
-    let given : Held = held c.args.points.now c.args.quads.now c.args.front_nodes.now c.args.front_lengths.now c.args.counts in
-    let sound : Sound given = c.requires.sound in
-    let s = sound in sym (length-take-le _ c.args.front_lengths.now (omega arith))
+pub returns-clause-passed : goal.returns-clause-passed
+returns-clause-passed c =
+    let given : Held = held_in c.args.lent.now c.args.counts in
+    let found = order_read given c.requires.sound c.order_on-order.result c.order_on-order.ensures in
+    let long = order_long given c.requires.sound c.order_on-order.result found in
+    let at : Held = held_in c.loop-li.lent c.loop-li.c in
+    pass_done (job_of c.args.job.now) given c.begun-c.result c.begun-c.ensures _ found at c.loop-li.invariant.0.clean (rowed_all _ given.counts.fronts _ _ long c.loop-li.li-index at c.loop-li.invariant.0 (omega arith))
 
-pub pass_order-order-requires : goal.pass_order-order-requires
-pass_order-order-requires c =
-    let given : Held = held c.args.points.now c.args.quads.now c.args.front_nodes.now c.args.front_lengths.now c.args.counts in
-    let sound : Sound given = c.requires.sound in
-    let s = sound in
-    let b = given in
-    let k : length (sizes_of b) ≤ front_limit = simp length-take (omega arith) in record {
-      sizes_len_bound = (k, fits b (sound_counted b s));
-      by_index = read_below b s;
-    }
+pub returns-clause-same : goal.returns-clause-same
+returns-clause-same c = c.loop-li.invariant.1
 
-pub begun-c-requires : goal.begun-c-requires
-begun-c-requires c =
-    c.requires.passes_begun_bound.0
-
-pub loop-k-init : goal.loop-k-init
-loop-k-init c =
-    let given : Held = held c.args.points.now c.args.quads.now c.args.front_nodes.now c.args.front_lengths.now c.args.counts in
-    let sound : Sound given = c.requires.sound in
-    let job_at : Job = job c.args.coords.now c.args.loop_lengths.now c.args.h c.args.options in
-    (pass_begins job_at given _ c.begun-c.ensures c.pass_order-order.result sound c.requires.clean, omega arith)
-
-pub offset_bounds-order-k : goal.offset_bounds-order-k
-offset_bounds-order-k c =
-    let given : Held = held c.args.points.now c.args.quads.now c.args.front_nodes.now c.args.front_lengths.now c.args.counts in
-    let sound : Sound given = c.requires.sound in
-    let s = sound in omega arith
-
-pub bounds-order-k : goal.bounds-order-k
-bounds-order-k c =
-    let given : Held = held c.args.points.now c.args.quads.now c.args.front_nodes.now c.args.front_lengths.now c.args.counts in
-    let sound : Sound given = c.requires.sound in
-    let s = sound in omega arith
-
-pub next_row-answer-requires : goal.next_row-answer-requires
-next_row-answer-requires c =
-    let given : Held = held c.args.points.now c.args.quads.now c.args.front_nodes.now c.args.front_lengths.now c.args.counts in
-    let sound : Sound given = c.requires.sound in
-    let order-found : take given.counts.fronts c.pass_order-order.result ≡ pass_order (reading given) = order_read given sound c.pass_order-order.result c.pass_order-order.ensures in
-    let v = c.loop-k.invariant.0 in record {
-      sound = v.sound;
-      clean = v.clean;
-      li_lt_fronts = (rw v.fronts (order_below given sound c.pass_order-order.result order-found c.loop-k.k (omega arith)), c.requires.passes_begun_bound.1);
-    }
-
-pub shape_of-points-then-is_full : goal.shape_of-points-then-is_full
-shape_of-points-then-is_full c =
-    let given : Held = held c.args.points.now c.args.quads.now c.args.front_nodes.now c.args.front_lengths.now c.args.counts in
-    let sound : Sound given = c.requires.sound in
-    let s = sound in
-    let v = c.loop-k.invariant.0.sound in
-    let g = c.next_row-answer.auto in omega arith
-
-pub shape_of-quads-then-is_full : goal.shape_of-quads-then-is_full
-shape_of-quads-then-is_full c =
-    let given : Held = held c.args.points.now c.args.quads.now c.args.front_nodes.now c.args.front_lengths.now c.args.counts in
-    let sound : Sound given = c.requires.sound in
-    let s = sound in
-    let v = c.loop-k.invariant.0.sound in
-    let g = c.next_row-answer.auto in omega arith
-
-pub shape_of-front_nodes-then-is_full : goal.shape_of-front_nodes-then-is_full
-shape_of-front_nodes-then-is_full c =
-    let given : Held = held c.args.points.now c.args.quads.now c.args.front_nodes.now c.args.front_lengths.now c.args.counts in
-    let sound : Sound given = c.requires.sound in
-    let s = sound in
-    let v = c.loop-k.invariant.0.sound in
-    let g = c.next_row-answer.auto in omega arith
-
-pub shape_of-front_lengths-then-is_full : goal.shape_of-front_lengths-then-is_full
-shape_of-front_lengths-then-is_full c =
-    let given : Held = held c.args.points.now c.args.quads.now c.args.front_nodes.now c.args.front_lengths.now c.args.counts in
-    let sound : Sound given = c.requires.sound in
-    let s = sound in
-    let v = c.loop-k.invariant.0.sound in
-    let g = c.next_row-answer.auto in omega arith
-
-pub returns-then-is_full : goal.returns-then-is_full
-returns-then-is_full c =
-    let given : Held = held c.args.points.now c.args.quads.now c.args.front_nodes.now c.args.front_lengths.now c.args.counts in
-    let sound : Sound given = c.requires.sound in
-    let job_at : Job = job c.args.coords.now c.args.loop_lengths.now c.args.h c.args.options in
-    let order-found : take given.counts.fronts c.pass_order-order.result ≡ pass_order (reading given) = order_read given sound c.pass_order-order.result c.pass_order-order.ensures in
-    let held_at : Held = held c.loop-k.points c.loop-k.quads c.loop-k.front_nodes c.loop-k.front_lengths c.loop-k.c in
-    let held_after : Held = (held c.next_row-answer.new.points c.next_row-answer.new.quads c.next_row-answer.new.front_nodes c.next_row-answer.new.front_lengths c.loop-k.c) in
-    let b = given in
-    let more = c.loop-k-test.true in
-    pass_full job_at b c.begun-c.result c.begun-c.ensures c.pass_order-order.result order-found held_after
-    (rowed_full job_at b.counts.fronts c.pass_order-order.result _ (order_long b sound c.pass_order-order.result order-found) c.loop-k.k held_at c.loop-k.invariant.0 more c.next_row-answer.result held_after c.next_row-answer.ensures (sym c.is_full.ensures ∙ c.if-is_full.true))
-
-pub overflow_step-k : goal.overflow_step-k
-overflow_step-k c = omega arith
-
-pub loop-k-smaller : goal.loop-k-smaller
-loop-k-smaller c = omega arith
-
-pub loop-k-preserved : goal.loop-k-preserved
-loop-k-preserved c =
-    let given : Held = held c.args.points.now c.args.quads.now c.args.front_nodes.now c.args.front_lengths.now c.args.counts in
-    let sound : Sound given = c.requires.sound in
-    let job_at : Job = job c.args.coords.now c.args.loop_lengths.now c.args.h c.args.options in
-    let order-found : take given.counts.fronts c.pass_order-order.result ≡ pass_order (reading given) = order_read given sound c.pass_order-order.result c.pass_order-order.ensures in
-    let held_at : Held = held c.loop-k.points c.loop-k.quads c.loop-k.front_nodes c.loop-k.front_lengths c.loop-k.c in
-    let held_after : Held = (held c.next_row-answer.new.points c.next_row-answer.new.quads c.next_row-answer.new.front_nodes c.next_row-answer.new.front_lengths c.loop-k.c) in
-    let b = given in
-    let more = c.loop-k-test.true in
-    let l = held_after in
-    (rowed_more job_at b.counts.fronts c.pass_order-order.result _ (order_long b sound c.pass_order-order.result order-found) c.loop-k.k held_at c.loop-k.invariant.0 more c.next_row-answer.result l c.next_row-answer.ensures (sym c.is_full.ensures ∙ c.if-is_full.false) _ (ap (held l.points l.quads l.front_nodes l.front_lengths) c.counts_after-c.ensures), omega arith)
-
-pub shape_of-points : goal.shape_of-points
-shape_of-points c =
-    let given : Held = held c.args.points.now c.args.quads.now c.args.front_nodes.now c.args.front_lengths.now c.args.counts in
-    let sound : Sound given = c.requires.sound in
-    let s = sound in
-    let v = c.loop-k.invariant.0.sound in omega arith
-
-pub shape_of-quads : goal.shape_of-quads
-shape_of-quads c =
-    let given : Held = held c.args.points.now c.args.quads.now c.args.front_nodes.now c.args.front_lengths.now c.args.counts in
-    let sound : Sound given = c.requires.sound in
-    let s = sound in
-    let v = c.loop-k.invariant.0.sound in omega arith
-
-pub shape_of-front_nodes : goal.shape_of-front_nodes
-shape_of-front_nodes c =
-    let given : Held = held c.args.points.now c.args.quads.now c.args.front_nodes.now c.args.front_lengths.now c.args.counts in
-    let sound : Sound given = c.requires.sound in
-    let s = sound in
-    let v = c.loop-k.invariant.0.sound in omega arith
-
-pub shape_of-front_lengths : goal.shape_of-front_lengths
-shape_of-front_lengths c =
-    let given : Held = held c.args.points.now c.args.quads.now c.args.front_nodes.now c.args.front_lengths.now c.args.counts in
-    let sound : Sound given = c.requires.sound in
-    let s = sound in
-    let v = c.loop-k.invariant.0.sound in omega arith
-
-pub returns : goal.returns
-returns c =
-    let given : Held = held c.args.points.now c.args.quads.now c.args.front_nodes.now c.args.front_lengths.now c.args.counts in
-    let sound : Sound given = c.requires.sound in
-    let job_at : Job = job c.args.coords.now c.args.loop_lengths.now c.args.h c.args.options in
-    let order-found : take given.counts.fronts c.pass_order-order.result ≡ pass_order (reading given) = order_read given sound c.pass_order-order.result c.pass_order-order.ensures in
-    let held_at : Held = held c.loop-k.points c.loop-k.quads c.loop-k.front_nodes c.loop-k.front_lengths c.loop-k.c in
-    let b = given in
-    pass_done job_at b c.begun-c.result c.begun-c.ensures c.pass_order-order.result order-found held_at c.loop-k.invariant.0.clean
-    (rowed_all job_at b.counts.fronts c.pass_order-order.result _ (order_long b sound c.pass_order-order.result order-found) c.loop-k.k held_at c.loop-k.invariant.0 (omega arith))
+pub returns-then-eq-clause-same : goal.returns-then-eq-clause-same
+returns-then-eq-clause-same c = same_again c.loop-li.invariant.1 c.next_row-answer.ensures.same

@@ -1,13 +1,9 @@
--- `passes::pass::one_pass` meets its contract. The invariant: a row was tried on each front before place k of the order, and the buffers are sound and clean. The measure is the fronts left.
-use Prim.Native.Nat.{◌-◌, ◌≤◌}
-use Rattle.state.specs.Call.{held}
-use Rattle.input.specs.Job.{job}
+-- `passes::pass::one_pass` meets its contract. The invariant: a row was tried on each front passed, and the buffers are sound and clean.
+use Rattle.state.specs.Lent.{Same, held_in}
+use Rattle.input.specs.Job.{job_of}
 use Rattle.passes.proofs.Rows.{Rowed}
 use Rattle.passes.proofs.pass.one_pass.Given as goal
 
-abbrev pub invariant-loop-k : goal.invariant-loop-k
-invariant-loop-k l =
-    Rowed (job l.coords l.loop_lengths l.h l.options) l.fronts l.order (held l.initial.points l.initial.quads l.initial.front_nodes l.initial.front_lengths l.initial.c) l.k (held l.points l.quads l.front_nodes l.front_lengths l.c) × (l.k ≤ l.fronts)
-
-abbrev pub decreases-loop-k : goal.decreases-loop-k
-decreases-loop-k l = l.fronts - l.k
+abbrev pub invariant-loop-li : goal.invariant-loop-li
+invariant-loop-li l =
+    Rowed (job_of l.job) l.fronts l.li-items (held_in l.initial.lent l.initial.c) l.li-index (held_in l.lent l.c) × Same l.initial.lent l.lent

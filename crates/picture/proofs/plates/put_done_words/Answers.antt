@@ -9,6 +9,6 @@ pub put_done-requires : goal.put_done-requires
 put_done-requires c =
     rw c.worst-least.ensures c.requires.room
 
-pub returns : goal.returns
-returns c =
-    rw c.worst-least.ensures at c.put_done.ensures
+pub returns-clause-put : goal.returns-clause-put
+returns-clause-put c =
+    rw c.worst-least.ensures at c.put_done.ensures.put

@@ -15,20 +15,20 @@ begun : (out : List ℕ) (at : ℕ) (points : List Float) (laid : ℕ) → Going
 unfolding dots_text
 begun out at points laid = start out at (nodes_text 110 points (length points / 2) ∷ nodes_text 115 points (length points / 2 - laid) ∷ []) refl
 
-pub put_nodes-first-requires : goal.put_nodes-first-requires
-put_nodes-first-requires c =
-    record {
-      room = fits (begun c.args.out.now c.args.at c.args.points.now c.args.laid) c.requires;
-      n_in_bounds = omega arith;
-    }
-
 pub put_nodes-requires : goal.put_nodes-requires
 put_nodes-requires c =
-    let e = c.less-sampled.ensures in record {
-      room = rw e (fits (step (begun c.args.out.now c.args.at c.args.points.now c.args.laid) c.put_nodes-first.ensures) c.requires);
+    record {
+      room = fits (begun c.args.w.now.out.now c.args.w.now.at c.args.points.now c.args.laid) c.requires;
       n_in_bounds = omega arith;
     }
 
-pub returns : goal.returns
-returns c =
-    done (step (step (begun c.args.out.now c.args.at c.args.points.now c.args.laid) c.put_nodes-first.ensures) (rw c.less-sampled.ensures at c.put_nodes.ensures))
+pub put_nodes-requires-2 : goal.put_nodes-requires-2
+put_nodes-requires-2 c =
+    let e = c.saturating_sub-sampled.ensures in record {
+      room = rw e (fits (step (begun c.args.w.now.out.now c.args.w.now.at c.args.points.now c.args.laid) c.put_nodes.ensures.put) c.requires);
+      n_in_bounds = omega arith;
+    }
+
+pub returns-clause-put : goal.returns-clause-put
+returns-clause-put c =
+    done (step (step (begun c.args.w.now.out.now c.args.w.now.at c.args.points.now c.args.laid) c.put_nodes.ensures.put) (rw c.saturating_sub-sampled.ensures at c.put_nodes-2.ensures.put))

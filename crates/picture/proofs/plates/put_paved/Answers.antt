@@ -16,36 +16,36 @@ use Rattle.state.specs.declared.Counts.{Counts}
 use Rattle.picture.proofs.plates.put_paved.Goals as goal
 
 -- the text in its pieces
-begun : (out : List ℕ) (b : Box) (m : Float) (coords : List Float) (loops : List ℕ) (points : List Float) (counts : Counts) (quads : List ℕ) (lengths : List ℕ) (nodes : List ℕ) → Going out (0) (paved_text (boxed b) m coords loops points (quads_of counts.quads quads) (cut lengths nodes) counts) out (0) (head_text (view_text (boxed b) m) (size_text (boxed b) m) ∷ shapes_text coords loops points (quads_of counts.quads quads) (cut lengths nodes) counts.laid ∷ caption_text (middle_text (boxed b)) (under_text (boxed b) m) ∷ done_caption counts (worst (inf false) points (quads_of counts.quads quads)) ∷ closing ∷ [])
+begun : (out : List ℕ) (at : ℕ) (b : Box) (m : Float) (coords : List Float) (loops : List ℕ) (points : List Float) (counts : Counts) (quads : List ℕ) (lengths : List ℕ) (nodes : List ℕ) → Going out at (paved_text (boxed b) m coords loops points (quads_of counts.quads quads) (cut lengths nodes) counts) out at (head_text (view_text (boxed b) m) (size_text (boxed b) m) ∷ shapes_text coords loops points (quads_of counts.quads quads) (cut lengths nodes) counts.laid ∷ caption_text (middle_text (boxed b)) (under_text (boxed b) m) ∷ done_caption counts (worst (inf false) points (quads_of counts.quads quads)) ∷ closing ∷ [])
 unfolding paved_text framed_text
-begun out b m coords loops points counts quads lengths nodes = start out (0) (head_text (view_text (boxed b) m) (size_text (boxed b) m) ∷ shapes_text coords loops points (quads_of counts.quads quads) (cut lengths nodes) counts.laid ∷ caption_text (middle_text (boxed b)) (under_text (boxed b) m) ∷ done_caption counts (worst (inf false) points (quads_of counts.quads quads)) ∷ closing ∷ []) refl
+begun out at b m coords loops points counts quads lengths nodes = start out at (head_text (view_text (boxed b) m) (size_text (boxed b) m) ∷ shapes_text coords loops points (quads_of counts.quads quads) (cut lengths nodes) counts.laid ∷ caption_text (middle_text (boxed b)) (under_text (boxed b) m) ∷ done_caption counts (worst (inf false) points (quads_of counts.quads quads)) ∷ closing ∷ []) refl
 
-pub put_head-a1-requires : goal.put_head-a1-requires
-put_head-a1-requires c =
-    fits (begun c.args.out.now c.args.b c.args.m c.args.coords.now c.args.loops.now c.args.points.now c.args.counts c.args.quads.now c.args.lengths.now c.args.nodes.now) c.requires.room
+pub put_head-requires : goal.put_head-requires
+put_head-requires c =
+    fits (begun c.args.w.now.out.now c.args.w.now.at c.args.b c.args.m c.args.coords.now c.args.loops.now c.args.points.now c.args.counts c.args.quads.now c.args.lengths.now c.args.nodes.now) c.requires.room
 
-pub put_shapes-a2-requires : goal.put_shapes-a2-requires
-put_shapes-a2-requires c =
+pub put_shapes-requires : goal.put_shapes-requires
+put_shapes-requires c =
     record {
-      room = fits (step (begun c.args.out.now c.args.b c.args.m c.args.coords.now c.args.loops.now c.args.points.now c.args.counts c.args.quads.now c.args.lengths.now c.args.nodes.now) c.put_head-a1.ensures) c.requires.room;
+      room = fits (step (begun c.args.w.now.out.now c.args.w.now.at c.args.b c.args.m c.args.coords.now c.args.loops.now c.args.points.now c.args.counts c.args.quads.now c.args.lengths.now c.args.nodes.now) c.put_head.ensures.put) c.requires.room;
       loops_in_bounds = c.requires.loops_in_bounds;
     }
 
-pub put_caption-a3-requires : goal.put_caption-a3-requires
-put_caption-a3-requires c =
-    fits (step (step (begun c.args.out.now c.args.b c.args.m c.args.coords.now c.args.loops.now c.args.points.now c.args.counts c.args.quads.now c.args.lengths.now c.args.nodes.now) c.put_head-a1.ensures) c.put_shapes-a2.ensures) c.requires.room
+pub put_caption-requires : goal.put_caption-requires
+put_caption-requires c =
+    fits (step (step (begun c.args.w.now.out.now c.args.w.now.at c.args.b c.args.m c.args.coords.now c.args.loops.now c.args.points.now c.args.counts c.args.quads.now c.args.lengths.now c.args.nodes.now) c.put_head.ensures.put) c.put_shapes.ensures.put) c.requires.room
 
-pub put_done_words-a4-requires : goal.put_done_words-a4-requires
-put_done_words-a4-requires c =
+pub put_done_words-requires : goal.put_done_words-requires
+put_done_words-requires c =
     record {
-      room = fits (step (step (step (begun c.args.out.now c.args.b c.args.m c.args.coords.now c.args.loops.now c.args.points.now c.args.counts c.args.quads.now c.args.lengths.now c.args.nodes.now) c.put_head-a1.ensures) c.put_shapes-a2.ensures) c.put_caption-a3.ensures) c.requires.room;
+      room = fits (step (step (step (begun c.args.w.now.out.now c.args.w.now.at c.args.b c.args.m c.args.coords.now c.args.loops.now c.args.points.now c.args.counts c.args.quads.now c.args.lengths.now c.args.nodes.now) c.put_head.ensures.put) c.put_shapes.ensures.put) c.put_caption.ensures.put) c.requires.room;
       quads_in_bounds = c.requires.loops_in_bounds.1;
     }
 
 pub put_closing-requires : goal.put_closing-requires
 put_closing-requires c =
-    fits (step (step (step (step (begun c.args.out.now c.args.b c.args.m c.args.coords.now c.args.loops.now c.args.points.now c.args.counts c.args.quads.now c.args.lengths.now c.args.nodes.now) c.put_head-a1.ensures) c.put_shapes-a2.ensures) c.put_caption-a3.ensures) c.put_done_words-a4.ensures) c.requires.room
+    fits (step (step (step (step (begun c.args.w.now.out.now c.args.w.now.at c.args.b c.args.m c.args.coords.now c.args.loops.now c.args.points.now c.args.counts c.args.quads.now c.args.lengths.now c.args.nodes.now) c.put_head.ensures.put) c.put_shapes.ensures.put) c.put_caption.ensures.put) c.put_done_words.ensures.put) c.requires.room
 
-pub returns : goal.returns
-returns c =
-    done (step (step (step (step (step (begun c.args.out.now c.args.b c.args.m c.args.coords.now c.args.loops.now c.args.points.now c.args.counts c.args.quads.now c.args.lengths.now c.args.nodes.now) c.put_head-a1.ensures) c.put_shapes-a2.ensures) c.put_caption-a3.ensures) c.put_done_words-a4.ensures) c.put_closing.ensures)
+pub returns-clause-put : goal.returns-clause-put
+returns-clause-put c =
+    done (step (step (step (step (step (begun c.args.w.now.out.now c.args.w.now.at c.args.b c.args.m c.args.coords.now c.args.loops.now c.args.points.now c.args.counts c.args.quads.now c.args.lengths.now c.args.nodes.now) c.put_head.ensures.put) c.put_shapes.ensures.put) c.put_caption.ensures.put) c.put_done_words.ensures.put) c.put_closing.ensures.put)

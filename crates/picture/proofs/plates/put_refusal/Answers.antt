@@ -1,4 +1,5 @@
 -- `picture::plates::put_refusal` meets its contract.
+use Rattle.input.specs.Job.{job_of}
 use Rattle.fan_search.specs.Values.{boxed}
 use Rattle.picture.proofs.Fitting.{outlined_fits}
 use Rattle.text.proofs.Midst.{put_same}
@@ -9,7 +10,7 @@ use Rattle.picture.proofs.plates.put_refusal.Goals as goal
 pub put_outlined-requires : goal.put_outlined-requires
 put_outlined-requires c =
     let few = c.requires.few in
-    let h = outlined_fits (boxed c.box_of-b.result) c.margin_of-m.result c.args.coords.now c.args.loops.now c.args.n few in
+    let h = outlined_fits (boxed c.box_of-b.result) c.margin_of-m.result c.args.job.now.coords.now c.args.job.now.loop_lengths.now c.args.n few in
     let g = c.requires.picture_room_in_bounds in record {
       room = omega arith;
       loops_in_bounds = few.points;
@@ -21,9 +22,10 @@ returns c =
     let b = boxed c.box_of-b.result in
     let m = c.margin_of-m.result in
     let a = c.args in
-    let h = outlined_fits b m a.coords.now a.loops.now a.n few in
-    let w = c.put_outlined.ensures in
+    let h = outlined_fits b m a.job.now.coords.now a.job.now.loop_lengths.now a.n few in
+    let w = c.put_outlined.ensures.put in
     let p = w.place in record {
-      put = put_same (outlined_is b m a.coords.now a.loops.now a.h c.box_of-b.ensures c.margin_of-m.ensures a.n) w;
+      put = put_same (outlined_is b m (job_of a.job.now) c.box_of-b.ensures c.margin_of-m.ensures a.n) w;
       upper_bound = omega arith;
+      same = c.put_outlined.ensures.same;
     }

@@ -14,31 +14,31 @@ begun : (out : List ℕ) (at : ℕ) (coords : List Float) (loops : List ℕ) (po
 unfolding shapes_text
 begun out at coords loops points n quads lengths nodes laid = start out at (tiles_text default_limit points (quads_of n quads) ∷ outline_text coords loops ∷ fronts_text points (cut lengths nodes) ∷ dots_text points laid ∷ []) refl
 
-pub put_tiles-a1-requires : goal.put_tiles-a1-requires
-put_tiles-a1-requires c =
+pub put_tiles-requires : goal.put_tiles-requires
+put_tiles-requires c =
     record {
-      room = rw c.default_limit-limit.ensures (fits (begun c.args.out.now c.args.at c.args.coords.now c.args.loops.now c.args.points.now c.args.n c.args.quads.now c.args.lengths.now c.args.nodes.now c.args.laid) c.requires.room);
+      room = rw c.default_limit-limit.ensures (fits (begun c.args.w.now.out.now c.args.w.now.at c.args.coords.now c.args.loops.now c.args.points.now c.args.n c.args.quads.now c.args.lengths.now c.args.nodes.now c.args.laid) c.requires.room);
       n_in_bounds = c.requires.loops_in_bounds.1;
     }
 
-pub put_outline-a2-requires : goal.put_outline-a2-requires
-put_outline-a2-requires c =
+pub put_outline-requires : goal.put_outline-requires
+put_outline-requires c =
     record {
-      room = fits (step (begun c.args.out.now c.args.at c.args.coords.now c.args.loops.now c.args.points.now c.args.n c.args.quads.now c.args.lengths.now c.args.nodes.now c.args.laid) (rw c.default_limit-limit.ensures at c.put_tiles-a1.ensures)) c.requires.room;
+      room = fits (step (begun c.args.w.now.out.now c.args.w.now.at c.args.coords.now c.args.loops.now c.args.points.now c.args.n c.args.quads.now c.args.lengths.now c.args.nodes.now c.args.laid) (rw c.default_limit-limit.ensures at c.put_tiles.ensures.put)) c.requires.room;
       loops_in_bounds = c.requires.loops_in_bounds.0;
     }
 
-pub put_fronts-a3-requires : goal.put_fronts-a3-requires
-put_fronts-a3-requires c =
+pub put_fronts-requires : goal.put_fronts-requires
+put_fronts-requires c =
     record {
-      room = fits (step (step (begun c.args.out.now c.args.at c.args.coords.now c.args.loops.now c.args.points.now c.args.n c.args.quads.now c.args.lengths.now c.args.nodes.now c.args.laid) (rw c.default_limit-limit.ensures at c.put_tiles-a1.ensures)) c.put_outline-a2.ensures) c.requires.room;
+      room = fits (step (step (begun c.args.w.now.out.now c.args.w.now.at c.args.coords.now c.args.loops.now c.args.points.now c.args.n c.args.quads.now c.args.lengths.now c.args.nodes.now c.args.laid) (rw c.default_limit-limit.ensures at c.put_tiles.ensures.put)) c.put_outline.ensures.put) c.requires.room;
       lengths_in_bounds = c.requires.loops_in_bounds.2;
     }
 
 pub put_dots-requires : goal.put_dots-requires
 put_dots-requires c =
-    fits (step (step (step (begun c.args.out.now c.args.at c.args.coords.now c.args.loops.now c.args.points.now c.args.n c.args.quads.now c.args.lengths.now c.args.nodes.now c.args.laid) (rw c.default_limit-limit.ensures at c.put_tiles-a1.ensures)) c.put_outline-a2.ensures) c.put_fronts-a3.ensures) c.requires.room
+    fits (step (step (step (begun c.args.w.now.out.now c.args.w.now.at c.args.coords.now c.args.loops.now c.args.points.now c.args.n c.args.quads.now c.args.lengths.now c.args.nodes.now c.args.laid) (rw c.default_limit-limit.ensures at c.put_tiles.ensures.put)) c.put_outline.ensures.put) c.put_fronts.ensures.put) c.requires.room
 
-pub returns : goal.returns
-returns c =
-    done (step (step (step (step (begun c.args.out.now c.args.at c.args.coords.now c.args.loops.now c.args.points.now c.args.n c.args.quads.now c.args.lengths.now c.args.nodes.now c.args.laid) (rw c.default_limit-limit.ensures at c.put_tiles-a1.ensures)) c.put_outline-a2.ensures) c.put_fronts-a3.ensures) c.put_dots.ensures)
+pub returns-clause-put : goal.returns-clause-put
+returns-clause-put c =
+    done (step (step (step (step (begun c.args.w.now.out.now c.args.w.now.at c.args.coords.now c.args.loops.now c.args.points.now c.args.n c.args.quads.now c.args.lengths.now c.args.nodes.now c.args.laid) (rw c.default_limit-limit.ensures at c.put_tiles.ensures.put)) c.put_outline.ensures.put) c.put_fronts.ensures.put) c.put_dots.ensures.put)

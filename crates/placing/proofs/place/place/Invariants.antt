@@ -1,6 +1,6 @@
 -- `placing::place::place` meets its contract. The invariant: the nodes of the first i sides are written.
 use mathlib.Core.Path.{◌≡◌}
-use Prim.Native.Nat.{◌≤◌, ◌-◌, ◌*◌}
+use Prim.Native.Nat.{◌≤◌, ◌*◌}
 use lib.ListN.{length}
 use lib.Seq.{sets}
 use Rattle.geometry.specs.Rings.{ring_of}
@@ -12,11 +12,6 @@ use Rattle.placing.proofs.place.place.Given as goal
 abbrev pub invariant-loop-i : goal.invariant-loop-i
 invariant-loop-i l =
     let r = turned_if l.back (ring_of l.pts l.n) in
-    (l.i ≤ l.n)
-    × (l.placed * 2 ≡ length (laid.placed l.h l.corner_margin r l.i))
+    (l.placed * 2 ≡ length (laid.placed l.h l.corner_margin r l.i))
     × (l.points ≡ sets l.initial.points (l.at * 2) (laid.placed l.h l.corner_margin r l.i))
-    × (length l.points ≡ length l.initial.points)
     × (l.placed ≤ plans.planned l.h l.corner_margin r)
-
-abbrev pub decreases-loop-i : goal.decreases-loop-i
-decreases-loop-i l = l.n - l.i

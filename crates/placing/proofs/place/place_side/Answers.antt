@@ -2,79 +2,59 @@
 use mathlib.Core.Path.{◌≡◌}
 use Prim.Native.Nat.{ℕ}
 use native.Mathlib.Omega.{arith}
-use Rattle.geometry.specs.Rings.{Ring, ring_of}
+use Rattle.geometry.specs.Rings.{Ring}
 use Rattle.planning.specs.Plan as plans
-use Rattle.planning.specs.Backwards.{turned_if}
+use Rattle.planning.specs.Backwards.{read_ring}
 use Rattle.geometry.proofs.Literals.{tiny_is}
 use Rattle.planning.proofs.Planning.{inner_is}
 use Rattle.placing.proofs.Placing.{short_side, bare_side, long_side}
 use Rattle.placing.proofs.place.place_side.Goals as goal
 
-pub ring_point-a-requires : goal.ring_point-a-requires
-ring_point-a-requires c = (omega arith, omega arith)
-
-pub put_point-requires : goal.put_point-requires
-put_point-requires c = omega arith
-
 pub returns-then-length : goal.returns-then-length
 returns-then-length c =
-    let turned_ring : Ring = turned_if c.args.back (ring_of c.args.pts.now c.args.n) in
-    short_side c.args.h c.args.corner_margin turned_ring c.args.i c.args.at _ _ c.args.points.now _ c.requires.n_bound.2 (rw tiny_is at c.if-length.true) c.ring_point-a.ensures c.put_point.ensures
+    let turned_ring : Ring = read_ring c.args.ring in
+    short_side c.args.h c.args.corner_margin turned_ring c.args.i c.args.at _ _ c.args.points.now _ c.requires.n_bound.1 (rw tiny_is at c.if-length.true) c.point-a.ensures c.put_point.ensures
 
 pub parts_of-k-requires : goal.parts_of-k-requires
 parts_of-k-requires c =
-    let turned_ring : Ring = turned_if c.args.back (ring_of c.args.pts.now c.args.n) in
+    let turned_ring : Ring = read_ring c.args.ring in
     let inner-at : ℕ = plans.inner c.args.h c.args.corner_margin turned_ring c.args.i in
-    let inner-found : c.inner_of.result ≡ inner-at = (inner_is c.args.h c.args.corner_margin turned_ring c.args.i _ _ c.requires.n_bound.3 c.inner_of.ensures) in
+    let inner-found : c.inner_of.result ≡ inner-at = (inner_is c.args.h c.args.corner_margin turned_ring c.args.i _ _ c.requires.n_bound.2 c.inner_of.ensures) in
     omega (arith, inner-found, c.requires.i_value, c.requires.i_bound.0)
 
 pub returns-then-k-eq0 : goal.returns-then-k-eq0
 returns-then-k-eq0 c =
-    let turned_ring : Ring = turned_if c.args.back (ring_of c.args.pts.now c.args.n) in
+    let turned_ring : Ring = read_ring c.args.ring in
     let inner-at : ℕ = plans.inner c.args.h c.args.corner_margin turned_ring c.args.i in
     let parts_at : ℕ = plans.parts c.args.h c.args.corner_margin turned_ring c.args.i in
-    let inner-found : c.inner_of.result ≡ inner-at = (inner_is c.args.h c.args.corner_margin turned_ring c.args.i _ _ c.requires.n_bound.3 c.inner_of.ensures) in
+    let inner-found : c.inner_of.result ≡ inner-at = (inner_is c.args.h c.args.corner_margin turned_ring c.args.i _ _ c.requires.n_bound.2 c.inner_of.ensures) in
     let parts-found : c.parts_of-k.result ≡ parts_at = (omega (arith, c.parts_of-k.ensures, inner-found, c.requires.i_value)) in
-    bare_side c.args.h c.args.corner_margin turned_ring c.args.i c.args.at _ _ _ c.args.points.now _ c.requires.n_bound.2 (rw tiny_is at c.if-length.false) parts-found c.if-k-eq0.true c.ring_point-a.ensures c.put_point.ensures
-
-pub next_of-j-requires : goal.next_of-j-requires
-next_of-j-requires c = omega arith
-
-pub ring_point-b-requires : goal.ring_point-b-requires
-ring_point-b-requires c = (omega arith, c.next_of-j.ensures.upper_bound)
-
-pub margin_at-margin-requires : goal.margin_at-margin-requires
-margin_at-margin-requires c =
-    (c.requires.n_bound.0, c.requires.n_bound.1)
-
-pub overflow_add-at : goal.overflow_add-at
-overflow_add-at c =
-    omega (arith, c.requires.i_bound.0)
+    bare_side c.args.h c.args.corner_margin turned_ring c.args.i c.args.at _ _ _ c.args.points.now _ c.requires.n_bound.1 (rw tiny_is at c.if-length.false) parts-found c.if-k-eq0.true c.point-a.ensures c.put_point.ensures
 
 pub place_inner-requires : goal.place_inner-requires
 place_inner-requires c =
-    let turned_ring : Ring = turned_if c.args.back (ring_of c.args.pts.now c.args.n) in
+    let turned_ring : Ring = read_ring c.args.ring in
     let inner-at : ℕ = plans.inner c.args.h c.args.corner_margin turned_ring c.args.i in
     let parts_at : ℕ = plans.parts c.args.h c.args.corner_margin turned_ring c.args.i in
-    let inner-found : c.inner_of.result ≡ inner-at = (inner_is c.args.h c.args.corner_margin turned_ring c.args.i _ _ c.requires.n_bound.3 c.inner_of.ensures) in
+    let inner-found : c.inner_of.result ≡ inner-at = (inner_is c.args.h c.args.corner_margin turned_ring c.args.i _ _ c.requires.n_bound.2 c.inner_of.ensures) in
     let parts-found : c.parts_of-k.result ≡ parts_at = (omega (arith, c.parts_of-k.ensures, inner-found, c.requires.i_value)) in
     let k = parts-found in
     (omega (arith, k, c.requires.i_bound.0), omega (arith, k, c.requires.i_bound.0, c.requires.i_bound.1, c.put_point.auto.pts))
 
 pub overflow_add-result : goal.overflow_add-result
 overflow_add-result c =
-    let turned_ring : Ring = turned_if c.args.back (ring_of c.args.pts.now c.args.n) in
+    let turned_ring : Ring = read_ring c.args.ring in
     let inner-at : ℕ = plans.inner c.args.h c.args.corner_margin turned_ring c.args.i in
     let parts_at : ℕ = plans.parts c.args.h c.args.corner_margin turned_ring c.args.i in
-    let inner-found : c.inner_of.result ≡ inner-at = (inner_is c.args.h c.args.corner_margin turned_ring c.args.i _ _ c.requires.n_bound.3 c.inner_of.ensures) in
+    let inner-found : c.inner_of.result ≡ inner-at = (inner_is c.args.h c.args.corner_margin turned_ring c.args.i _ _ c.requires.n_bound.2 c.inner_of.ensures) in
     let parts-found : c.parts_of-k.result ≡ parts_at = (omega (arith, c.parts_of-k.ensures, inner-found, c.requires.i_value)) in
     omega (arith, parts-found, c.requires.i_bound.0)
 
 pub returns : goal.returns
 returns c =
-    let turned_ring : Ring = turned_if c.args.back (ring_of c.args.pts.now c.args.n) in
+    let turned_ring : Ring = read_ring c.args.ring in
     let inner-at : ℕ = plans.inner c.args.h c.args.corner_margin turned_ring c.args.i in
     let parts_at : ℕ = plans.parts c.args.h c.args.corner_margin turned_ring c.args.i in
-    let inner-found : c.inner_of.result ≡ inner-at = (inner_is c.args.h c.args.corner_margin turned_ring c.args.i _ _ c.requires.n_bound.3 c.inner_of.ensures) in
+    let inner-found : c.inner_of.result ≡ inner-at = (inner_is c.args.h c.args.corner_margin turned_ring c.args.i _ _ c.requires.n_bound.2 c.inner_of.ensures) in
     let parts-found : c.parts_of-k.result ≡ parts_at = (omega (arith, c.parts_of-k.ensures, inner-found, c.requires.i_value)) in
-    long_side c.args.h c.args.corner_margin turned_ring c.args.i _ c.args.at _ _ _ _ _ _ c.args.points.now _ _ c.requires.n_bound.2 (rw tiny_is at c.if-length.false) c.next_of-j.ensures.value c.ring_point-a.ensures c.ring_point-b.ensures c.margin_at-margin.ensures c.requires.n_bound.3 parts-found c.put_point.ensures c.place_inner.ensures
+    long_side c.args.h c.args.corner_margin turned_ring c.args.i _ c.args.at _ _ _ _ _ _ c.args.points.now _ _ c.requires.n_bound.1 (rw tiny_is at c.if-length.false) c.next_of.ensures.value c.point-a.ensures c.point-b.ensures c.margin_at-margin.ensures c.requires.n_bound.2 parts-found c.put_point.ensures c.place_inner.ensures

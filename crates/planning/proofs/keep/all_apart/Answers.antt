@@ -1,5 +1,4 @@
-use mathlib.Core.Path.{◌≡◌, refl, sym}
-use mathlib.Core.Bool.{true≢false}
+use mathlib.Core.Path.{◌≡◌, refl}
 use native.Mathlib.Omega.{arith}
 use Rattle.geometry.specs.Rings.{ring_of}
 use Rattle.planning.specs.Ring as rings
@@ -9,32 +8,17 @@ use Rattle.planning.proofs.keep.all_apart.Goals as goal
 
 pub loop-k-init : goal.loop-k-init
 unfolding rings.kept
-loop-k-init c = (omega arith, refl, refl)
-
-pub point_at-p-requires : goal.point_at-p-requires
-point_at-p-requires c = omega arith
-
-pub close_to_last-requires : goal.close_to_last-requires
-close_to_last-requires c = omega arith
-
-pub returns-then-close_to_last : goal.returns-then-close_to_last
-returns-then-close_to_last c = λ e. absurd (true≢false (sym e))
-
-pub overflow_add-k : goal.overflow_add-k
-overflow_add-k c = omega arith
-
-pub loop-k-smaller : goal.loop-k-smaller
-loop-k-smaller c = omega arith
+loop-k-init c = (refl, refl)
 
 pub loop-k-preserved : goal.loop-k-preserved
 loop-k-preserved c =
     let l = c.loop-k in
-    let p = c.point_at-p.ensures in
-    let s = apart_step (ring_of c.args.coords.now c.args.n) c.args.coords.now l.k _ _ l.invariant.1 l.invariant.2 (omega (arith, c.loop-k-test.true, c.requires)) p p c.close_to_last.ensures c.if-close_to_last.false in
-    (omega arith, s.0, s.1)
+    let p = c.point_at.ensures in
+    let s = apart_step (ring_of c.args.coords.now c.args.n) c.args.coords.now l.k _ _ l.invariant.0 l.invariant.1 (omega arith) p p c.close_to_last.ensures c.if-close_to_last.false in
+    (s.0, s.1)
 
 pub returns : goal.returns
 returns c =
     let l = c.loop-k in
     let e : l.k ≡ c.args.n = omega arith in
-    λ q. front_part c.args.coords.now _ _ _ c.requires (rw e at l.invariant.1) (rw e at l.invariant.2)
+    λ q. front_part c.args.coords.now _ _ _ c.requires (rw e at l.invariant.0) (rw e at l.invariant.1)

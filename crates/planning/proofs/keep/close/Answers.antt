@@ -8,6 +8,6 @@ unfolding close
 returns-then-tiny c =
     rw (c.tiny-then-tiny.ensures, sym c.tiny.ensures ∙ c.if-tiny.true)
 
-pub returns : goal.returns
+pub returns-else-tiny : goal.returns-else-tiny
 unfolding close
-returns c = rw (sym c.tiny.ensures ∙ c.if-tiny.false)
+returns-else-tiny c = c.if-tiny.false ∙ rw (sym c.tiny.ensures ∙ c.if-tiny.false)

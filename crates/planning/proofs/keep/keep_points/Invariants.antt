@@ -1,6 +1,6 @@
 -- `planning::keep::keep_points` meets its contract. The invariant: the buffer begins with the points that the definition keeps of the first k.
 use mathlib.Core.Path.{◌≡◌}
-use Prim.Native.Nat.{◌≤◌, ◌-◌, ◌*◌}
+use Prim.Native.Nat.{◌≤◌, ◌*◌}
 use lib.ListN.{length}
 use lib.Seq.{sets}
 use Rattle.geometry.specs.Rings.{ring_of}
@@ -8,7 +8,8 @@ use Rattle.planning.specs.Ring as rings
 use Rattle.planning.proofs.keep.keep_points.Given as goal
 
 abbrev pub invariant-loop-k : goal.invariant-loop-k
-invariant-loop-k l = (l.k ≤ l.n) × (l.m ≤ l.k) × (l.m * 2 ≡ length (rings.kept (ring_of l.coords l.n) l.k)) × (l.kept ≡ sets l.initial.kept 0 (rings.kept (ring_of l.coords l.n) l.k)) × (length l.kept ≡ length l.initial.kept)
-
-abbrev pub decreases-loop-k : goal.decreases-loop-k
-decreases-loop-k l = l.n - l.k
+invariant-loop-k l = record {
+  within : l.m ≤ l.k;
+  many : l.m * 2 ≡ length (rings.kept (ring_of l.coords l.n) l.k);
+  written : l.kept ≡ sets l.initial.kept 0 (rings.kept (ring_of l.coords l.n) l.k);
+}

@@ -6,5 +6,5 @@ use Rattle.planning.proofs.plan.span_of.Goals as goal
 pub returns-then-left : goal.returns-then-left
 returns-then-left c = greater_is _ _ zero_is c.if-left.true
 
-pub returns : goal.returns
-returns c = zero_greater _ _ zero_is c.if-left.false
+pub returns-else-left : goal.returns-else-left
+returns-else-left c = zero_greater _ _ zero_is c.if-left.false

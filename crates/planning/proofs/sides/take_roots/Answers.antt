@@ -1,53 +1,26 @@
-use mathlib.Core.Path.{◌≡◌, refl, ◌∙◌, ap}
+use mathlib.Core.Path.{◌≡◌, ◌∙◌, ap}
 use Prim.Native.Nat.{ℕ, ◌<◌}
-use native.Mathlib.Nat.{not-suc-le-zero, le_refl}
+use native.Mathlib.Nat.{le_refl}
 use native.Mathlib.Omega.{arith}
 use lib.Ieee.{nan}
-use lib.ListN.{length, get_or, length-set}
-use borrow.Author.Rules.{scaled_Fits}
+use lib.ListN.{length, get_or, take, get_or-append}
+use lib.Seq.{length-take-le, get_or-take}
 use Rattle.float.specs.Root.{root}
 use Rattle.state.proofs.Stores.{table_step, table_rest}
 use Rattle.planning.proofs.sides.take_roots.Goals as goal
 
-pub loop-i-init : goal.loop-i-init
-loop-i-init c = (omega arith, refl, λ k q l. refl, λ k q. absurd (not-suc-le-zero q))
-
-pub offset_bounds-s-i : goal.offset_bounds-s-i
-offset_bounds-s-i c =
-    scaled_Fits c.loop-i.i (length c.args.s.now) 8 (omega arith) c.well_formed.0.1
-
-pub bounds-s-i : goal.bounds-s-i
-bounds-s-i c = omega arith
-
-pub offset_bounds-s-i-in-loop-i : goal.offset_bounds-s-i-in-loop-i
-offset_bounds-s-i-in-loop-i c =
-    scaled_Fits c.loop-i.i (length c.args.s.now) 8 (omega arith) c.well_formed.0.1
-
-pub bounds-s-i-in-loop-i : goal.bounds-s-i-in-loop-i
-bounds-s-i-in-loop-i c = omega arith
-
-pub overflow_add-i : goal.overflow_add-i
-overflow_add-i c = omega arith
-
-pub loop-i-smaller : goal.loop-i-smaller
-loop-i-smaller c = omega arith
-
-pub loop-i-preserved : goal.loop-i-preserved
-loop-i-preserved c =
-    let l = c.loop-i in
-    let s₀ = c.args.s.now in
-    let room : l.i < length l.s = omega (arith, l.invariant.1, c.loop-i-test.true, c.requires) in (
-      omega arith,
-      simp length-set l.invariant.1,
-      table_rest l.s nan (λ (k : ℕ). get_or s₀ k nan) l.i _ _ l.invariant.2,
-      table_step l.s nan (λ (k : ℕ). root (get_or s₀ k nan)) l.i _ room l.invariant.3 (c.root.ensures ∙ ap root (l.invariant.2 l.i (le_refl l.i) c.loop-i-test.true)),
+pub loop-x-preserved : goal.loop-x-preserved
+loop-x-preserved c =
+    let l = c.loop-x in
+    let part = take c.args.n c.args.s.now in
+    let room : l.x-index < length l.x-items = omega arith in (
+      table_rest l.x-items nan (λ (k : ℕ). get_or part k nan) l.x-index _ _ l.invariant.0,
+      table_step l.x-items nan (λ (k : ℕ). root (get_or part k nan)) l.x-index _ room l.invariant.1 (c.root.ensures ∙ ap root (l.invariant.0 l.x-index (le_refl l.x-index) c.loop-x-test.true)),
     )
 
-pub shape_of-s : goal.shape_of-s
-shape_of-s c = c.loop-i.invariant.1
-
 pub returns : goal.returns
-returns c =
-    let l = c.loop-i in
-    let e : l.i ≡ c.args.n = omega arith in
-    rw e at l.invariant.3
+returns c = λ i g.
+    let s = c.args.s.now in
+    let long : length (take c.args.n s) ≡ c.args.n = length-take-le c.args.n s c.requires in
+    let below : i < length c.loop-x.x-items = omega arith in
+    get_or-append c.loop-x.x-items _ nan i below ∙ c.loop-x.invariant.1 i (omega arith) ∙ ap root (get_or-take c.args.n s i nan g)

@@ -1,75 +1,64 @@
 -- `row::call::row` meets its contract.
-use mathlib.Core.Path.{◌≡◌, sym, ◌∙◌}
+use mathlib.Core.Path.{refl, sym, ◌∙◌}
 use mathlib.Core.Bool.{true≢false}
-use Rattle.state.specs.Limits.{front_limit, front_node_limit, points_length, quads_length}
-use Rattle.state.specs.State.{Held, lengths, reading}
-use Rattle.state.specs.Call.{Left, held, lengths_of, state_left, on_state}
-use Rattle.state.specs.Sound.{Sound}
+use Rattle.std.proofs.lemmas.Result.{err_from_is_err_and}
+use Rattle.state.specs.State.{Held}
+use Rattle.state.specs.Lent.{held_in}
 use Rattle.state.proofs.Sounding.{sound}
 use Rattle.state.proofs.Calling.{input_refuses, state_refuses, state_stands}
-use Rattle.input.specs.Job.{Job, job, input_number}
+use Rattle.input.specs.Job.{job_of}
 use Rattle.input.proofs.Shape.{right_lengths_lem, outline_read}
 use Rattle.rules.specs.RowCall.{row_at, row_call}
 use Rattle.row.proofs.Stepping.{no_front, a_front}
 use Rattle.row.proofs.call.row.Goals as goal
 
-pub returns-then-input-ne0 : goal.returns-then-input-ne0
+pub returns-in_err-check-clause-left : goal.returns-in_err-check-clause-left
 unfolding row_call
-returns-then-input-ne0 c =
-    let given : Held = held c.args.points.now c.args.quads.now c.args.front_nodes.now c.args.front_lengths.now c.args.counts in
-    let job_at : Job = job c.args.coords.now c.args.loop_lengths.now c.args.h c.args.options in
-    let number : c.input_number-input.result ≡ input_number job_at (lengths given) = c.input_number-input.ensures in
-    rw (← number) (input_refuses given (row_at job_at c.args.front) _ c.if-input-ne0.true)
+returns-in_err-check-clause-left c =
+    let p = err_from_is_err_and c.from_residual.result c.from_residual.ensures.1 in
+    let given : Held = held_in c.args.lent.now c.args.counts in
+    rw (p.1, p.2) (input_refuses given (row_at (job_of c.args.job.now) c.args.front) _ _ c.in_err-check.ensures)
 
-pub wrong_state-requires : goal.wrong_state-requires
-wrong_state-requires c =
-    let given : Held = held c.args.points.now c.args.quads.now c.args.front_nodes.now c.args.front_lengths.now c.args.counts in
-    let job_at : Job = job c.args.coords.now c.args.loop_lengths.now c.args.h c.args.options in
-    let number : c.input_number-input.result ≡ input_number job_at (lengths given) = c.input_number-input.ensures in
-    let right : lengths given ≡ lengths_of points_length quads_length front_node_limit front_limit = right_lengths_lem job_at given _ number c.if-input-ne0.false in
-    right
+pub is_wrong-requires : goal.is_wrong-requires
+is_wrong-requires c =
+    let given : Held = held_in c.args.lent.now c.args.counts in
+    let j = job_of c.args.job.now in
+    let input = c.in_ok-check.ensures in
+    right_lengths_lem j given 0 input refl
 
-pub returns-then-wrong_state : goal.returns-then-wrong_state
+pub returns-then-is_wrong-clause-left : goal.returns-then-is_wrong-clause-left
 unfolding row_call
-returns-then-wrong_state c =
-    let given : Held = held c.args.points.now c.args.quads.now c.args.front_nodes.now c.args.front_lengths.now c.args.counts in
-    let job_at : Job = job c.args.coords.now c.args.loop_lengths.now c.args.h c.args.options in
-    let number : c.input_number-input.result ≡ input_number job_at (lengths given) = c.input_number-input.ensures in
-    rw (← number) (state_refuses given (row_at job_at c.args.front) _ c.if-input-ne0.false _ c.wrong_state.ensures c.if-wrong_state.true)
+returns-then-is_wrong-clause-left c =
+    let given : Held = held_in c.args.lent.now c.args.counts in
+    let j = job_of c.args.job.now in
+    let input = c.in_ok-check.ensures in
+    rw (← input) (state_refuses given (row_at j c.args.front) 0 refl _ c.is_wrong.ensures c.if-is_wrong.true)
 
-pub returns-then-counts-li : goal.returns-then-counts-li
+pub returns-then-counts-li-clause-left : goal.returns-then-counts-li-clause-left
 unfolding row_call
-returns-then-counts-li c =
-    let given : Held = held c.args.points.now c.args.quads.now c.args.front_nodes.now c.args.front_lengths.now c.args.counts in
-    let job_at : Job = job c.args.coords.now c.args.loop_lengths.now c.args.h c.args.options in
-    let number : c.input_number-input.result ≡ input_number job_at (lengths given) = c.input_number-input.ensures in
-    let right : lengths given ≡ lengths_of points_length quads_length front_node_limit front_limit = right_lengths_lem job_at given _ number c.if-input-ne0.false in
-    let sound-at : Sound given = sound given right (sym c.wrong_state.ensures ∙ c.if-wrong_state.false) in
-    let stood : ((a : Left) → a ≡ state_left given (row_at job_at c.args.front (reading given))
-    → a ≡ on_state (input_number job_at (lengths given)) given (row_at job_at c.args.front)) = λ a e. rw (← number) (state_stands given (row_at job_at c.args.front) _ c.if-input-ne0.false _ c.wrong_state.ensures c.if-wrong_state.false a e) in
-    stood _ (no_front job_at c.args.front given sound-at c.if-counts-li.true)
+returns-then-counts-li-clause-left c =
+    let given : Held = held_in c.args.lent.now c.args.counts in
+    let j = job_of c.args.job.now in
+    let input = c.in_ok-check.ensures in
+    let s = sound given (right_lengths_lem j given 0 input refl) (sym c.is_wrong.ensures ∙ c.if-is_wrong.false) in
+    rw (← input) (state_stands given (row_at j c.args.front) 0 refl _ c.is_wrong.ensures c.if-is_wrong.false _ (no_front j c.args.front given s c.if-counts-li.true))
 
 pub row_on-requires : goal.row_on-requires
 row_on-requires c =
-    let given : Held = held c.args.points.now c.args.quads.now c.args.front_nodes.now c.args.front_lengths.now c.args.counts in
-    let job_at : Job = job c.args.coords.now c.args.loop_lengths.now c.args.h c.args.options in
-    let number : c.input_number-input.result ≡ input_number job_at (lengths given) = c.input_number-input.ensures in
-    let right : lengths given ≡ lengths_of points_length quads_length front_node_limit front_limit = right_lengths_lem job_at given _ number c.if-input-ne0.false in
-    let sound-at : Sound given = sound given right (sym c.wrong_state.ensures ∙ c.if-wrong_state.false) in
+    let given : Held = held_in c.args.lent.now c.args.counts in
+    let j = job_of c.args.job.now in
+    let input = c.in_ok-check.ensures in
     record {
-      sound = sound-at;
+      sound = sound given (right_lengths_lem j given 0 input refl) (sym c.is_wrong.ensures ∙ c.if-is_wrong.false);
       clean = (λ h. absurd (true≢false (sym h)));
-      li_lt_fronts = (c.if-counts-li.false, outline_read job_at given _ number c.if-input-ne0.false);
+      li_lt_fronts = (c.if-counts-li.false, outline_read j given 0 input refl);
     }
 
-pub returns : goal.returns
+pub returns-clause-left : goal.returns-clause-left
 unfolding row_call
-returns c =
-    let given : Held = held c.args.points.now c.args.quads.now c.args.front_nodes.now c.args.front_lengths.now c.args.counts in
-    let job_at : Job = job c.args.coords.now c.args.loop_lengths.now c.args.h c.args.options in
-    let number : c.input_number-input.result ≡ input_number job_at (lengths given) = c.input_number-input.ensures in
-    let right : lengths given ≡ lengths_of points_length quads_length front_node_limit front_limit = right_lengths_lem job_at given _ number c.if-input-ne0.false in
-    let sound-at : Sound given = sound given right (sym c.wrong_state.ensures ∙ c.if-wrong_state.false) in
-    let stood : ((a : Left) → a ≡ state_left given (row_at job_at c.args.front (reading given))
-    → a ≡ on_state (input_number job_at (lengths given)) given (row_at job_at c.args.front)) = λ a e. rw (← number) (state_stands given (row_at job_at c.args.front) _ c.if-input-ne0.false _ c.wrong_state.ensures c.if-wrong_state.false a e) in
-    stood _ (a_front job_at c.args.front given sound-at _ c.if-counts-li.false c.row_on.ensures)
+returns-clause-left c =
+    let given : Held = held_in c.args.lent.now c.args.counts in
+    let j = job_of c.args.job.now in
+    let input = c.in_ok-check.ensures in
+    let s = sound given (right_lengths_lem j given 0 input refl) (sym c.is_wrong.ensures ∙ c.if-is_wrong.false) in
+    rw (← input) (state_stands given (row_at j c.args.front) 0 refl _ c.is_wrong.ensures c.if-is_wrong.false _ (a_front j c.args.front given s _ c.if-counts-li.false c.row_on.ensures.left))

@@ -1,33 +1,21 @@
-use mathlib.Core.Bool.{true, false}
-use Prim.Native.Nat.{◌-◌}
+-- `row_checks::checks::all_clear_of` meets its contract.
+use mathlib.Core.Path.{refl, ◌∙◌}
+use mathlib.Core.Bool.{Bool, false, not}
+use Prim.Native.Nat.{ℕ}
 use native.Mathlib.Omega.{arith}
-use lib.Ieee.{inf}
+use borrow.Author.Tests.{tests}
+use lib.Ieee.{inf, lt}
 use lib.ListN.{length}
-use Rattle.geometry.specs.declared.Point.{Point}
-use Rattle.geometry.specs.Rings.{node_ring}
+use Rattle.std.proofs.Common.{rules}
+use Rattle.std.proofs.lemmas.Iterator.{YieldsList-from_range}
+use Rattle.std.proofs.lemmas.Iterator.Search.{all_from_yields_List}
+use Rattle.geometry.specs.Rings.{point_at, node_ring}
 use Rattle.geometry.specs.Measures.{ring_distance}
-use Rattle.rules.proofs.Every.{every_none, every_more, every_stops, every_end, moved, too_near, far_enough}
+use Rattle.row_checks.proofs.Ranges.{all_below}
 use Rattle.row_checks.proofs.checks.all_clear_of.Goals as goal
 
-pub loop-i-init : goal.loop-i-init
-loop-i-init c = (omega arith, every_none _)
-
-pub point_at-p-requires : goal.point_at-p-requires
-point_at-p-requires c = omega arith
-
-pub returns-then-front_distance-least : goal.returns-then-front_distance-least
-returns-then-front_distance-least c =
-    let a = c.args in every_stops _ _ _ c.loop-i-test.true (too_near _ (moved (λ (p : Point). ring_distance (inf false) p (node_ring a.points.now a.nodes.now) (length a.nodes.now)) c.front_distance.ensures c.point_at-p.ensures) c.if-front_distance-least.true)
-
-pub overflow_step-i : goal.overflow_step-i
-overflow_step-i c = omega arith
-
-pub loop-i-smaller : goal.loop-i-smaller
-loop-i-smaller c = omega arith
-
-pub loop-i-preserved : goal.loop-i-preserved
-loop-i-preserved c =
-    let a = c.args in (omega arith, every_more _ _ c.loop-i.invariant.1 (far_enough _ (moved (λ (p : Point). ring_distance (inf false) p (node_ring a.points.now a.nodes.now) (length a.nodes.now)) c.front_distance.ensures c.point_at-p.ensures) c.if-front_distance-least.false))
-
 pub returns : goal.returns
-returns c = every_end _ _ _ c.loop-i.invariant.1 (omega arith)
+returns c =
+    let a = c.args in
+    let far : ℕ → Bool = λ i. not (lt (ring_distance (inf false) (point_at a.row.now i) (node_ring a.points.now a.nodes.now) (length a.nodes.now)) a.least) in
+    all_from_yields_List far _ _ _ c.all.ensures.ran (YieldsList-from_range 0 a.n a.n refl (omega arith)) (λ x b q k. search (rules, tests)) ∙ all_below far a.n

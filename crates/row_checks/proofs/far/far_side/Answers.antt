@@ -1,5 +1,4 @@
 use mathlib.Core.Path.{sym}
-use Prim.Native.Nat.{◌-◌}
 use native.Mathlib.Omega.{arith}
 use Rattle.rules.proofs.Every.{every_none, every-next}
 use Rattle.row_checks.proofs.FarClear.{foot_of, short_side, all_feet}
@@ -11,22 +10,13 @@ returns-then-length2-short c =
     short_side g.short g.bound g.row.now g.n g.a g.b c.if-length2-short.true
 
 pub loop-i-init : goal.loop-i-init
-loop-i-init c = (omega arith, sym (every_none _))
-
-pub point_at-p-requires : goal.point_at-p-requires
-point_at-p-requires c = omega arith
-
-pub overflow_add-i : goal.overflow_add-i
-overflow_add-i c = omega arith
-
-pub loop-i-smaller : goal.loop-i-smaller
-loop-i-smaller c = omega arith
+loop-i-init c = sym (every_none _)
 
 pub loop-i-preserved : goal.loop-i-preserved
 loop-i-preserved c =
-    (omega arith, every-next _ c.loop-i.i c.loop-i.invariant.1 (foot_of c.args.bound c.args.a _ _ _ c.point_at-p.ensures c.clamp_unit-t.ensures))
+    every-next _ c.loop-i.i c.loop-i.invariant (foot_of c.args.bound c.args.a _ _ _ c.point_at-p.ensures c.clamp_unit-t.ensures)
 
 pub returns : goal.returns
 returns c =
     let g = c.args in
-    all_feet g.short g.bound g.row.now g.n g.a g.b c.if-length2-short.false c.loop-i.i (omega arith) c.loop-i.invariant.1
+    all_feet g.short g.bound g.row.now g.n g.a g.b c.if-length2-short.false c.loop-i.i (omega arith) c.loop-i.invariant

@@ -1,17 +1,13 @@
--- `row_checks::fronts::clear_of_fronts` meets its contract. The invariant: `start` is where the next front stands, and the fronts passed are clear. The measure is the fronts left.
+-- `row_checks::fronts::clear_of_fronts` meets its contract. The invariant: `start` is where the next front stands, and the fronts passed are clear.
 use mathlib.Core.Path.{◌≡◌}
 use mathlib.Core.Bool.{true, ◌||◌}
 use mathlib.Core.List.{[]}
-use Prim.Native.Nat.{◌≤◌, ◌-◌}
 use lib.Dec.{eqb}
-use lib.ListN.{length, take, get_or}
+use lib.ListN.{take, get_or}
 use Rattle.geometry.specs.Domain.{sum_of}
 use Rattle.state.specs.State.{cut}
 use Rattle.rules.specs.Checks.{every, all_clear_of}
 use Rattle.row_checks.proofs.fronts.clear_of_fronts.Given as goal
 
 abbrev pub invariant-loop-other : goal.invariant-loop-other
-invariant-loop-other l = (l.other ≤ length l.lengths) × (l.start ≡ sum_of (take l.other l.lengths)) × (every (λ k. eqb k l.li || all_clear_of l.points (get_or (cut l.lengths l.front_nodes) k []) l.least l.row l.n) l.other ≡ true)
-
-abbrev pub decreases-loop-other : goal.decreases-loop-other
-decreases-loop-other l = length l.lengths - l.other
+invariant-loop-other l = (l.start ≡ sum_of (take l.other l.lengths)) × (every (λ k. eqb k l.li || all_clear_of l.points (get_or (cut l.lengths l.front_nodes) k []) l.least l.row l.n) l.other ≡ true)

@@ -1,6 +1,6 @@
 use mathlib.Core.Path.{◌≡◌, sym, ◌∙◌, ap}
-use mathlib.Core.Bool.{true, ◌&&◌}
-use Prim.Native.Nat.{ℕ, ◌<◌, ◌-◌}
+use mathlib.Core.Bool.{◌&&◌}
+use Prim.Native.Nat.{ℕ, ◌<◌}
 use native.Mathlib.Omega.{arith}
 use lib.ListN.{length, get_or}
 use Rattle.rules.specs.Checks.{every}
@@ -21,7 +21,7 @@ point_at-d-requires c =
     omega (arith, c.requires.n_nonzero)
 
 pub loop-i-init : goal.loop-i-init
-loop-i-init c = (omega arith, every_none _, every_none _, c.side_length-rung.ensures, λ l. (c.node_point-a.ensures, c.point_at-d.ensures))
+loop-i-init c = (every_none _, every_none _, c.side_length-rung.ensures, λ l. (c.node_point-a.ensures, c.point_at-d.ensures))
 
 pub node_point-b-requires : goal.node_point-b-requires
 node_point-b-requires c =
@@ -35,7 +35,7 @@ pub returns-then-new_side-least : goal.returns-then-new_side-least
 returns-then-new_side-least c =
     let a = c.args in
     let l = c.loop-i-test.true in
-    let w = c.loop-i.invariant.4 l in
+    let w = c.loop-i.invariant.3 l in
     let s = side_of a.row.now a.n c.loop-i.i c.side_length-new_side.ensures w.1 c.point_at-c.ensures c.next_of-after.ensures.value in
     ap (λ b. b && every (corners_good a.limit a.points.now a.old.now a.row.now a.n) a.n)
     (every_stops (long_enough a.least a.row.now a.n) c.loop-i.i a.n l (too_near a.least s c.if-new_side-least.true))
@@ -45,39 +45,30 @@ corners_pass_with-requires c = (
   c.side_length-old_side.ensures,
   c.side_length-next_rung.ensures,
   c.side_length-new_side.ensures ∙ length_flip _ _,
-  c.loop-i.invariant.3 ∙ length_flip _ _,
+  c.loop-i.invariant.2 ∙ length_flip _ _,
 )
 
 pub returns-then-not-corners_pass_with : goal.returns-then-not-corners_pass_with
 returns-then-not-corners_pass_with c =
     let a = c.args in
     let l = c.loop-i-test.true in
-    let w = c.loop-i.invariant.4 l in
+    let w = c.loop-i.invariant.3 l in
     let q = corners_of a.limit a.points.now a.row.now a.old.now a.n c.loop-i.i c.corners_pass_with.ensures w.0 c.node_point-b.ensures c.point_at-c.ensures w.1 c.next_of-after.ensures.value (c.if-not-corners_pass_with.true) in
     let e = every_stops (corners_good a.limit a.points.now a.old.now a.row.now a.n) c.loop-i.i a.n l q in
     sym (and_false (every (long_enough a.least a.row.now a.n) a.n)) ∙ ap (λ b. every (long_enough a.least a.row.now a.n) a.n && b) e
-
-pub overflow_step-i : goal.overflow_step-i
-overflow_step-i c =
-    omega (arith, c.loop-i-test.true, c.well_formed)
-
-pub loop-i-smaller : goal.loop-i-smaller
-loop-i-smaller c =
-    omega (arith, c.loop-i-test.true)
 
 pub loop-i-preserved : goal.loop-i-preserved
 loop-i-preserved c =
     let a = c.args in
     let l = c.loop-i-test.true in
-    let w = c.loop-i.invariant.4 l in
+    let w = c.loop-i.invariant.3 l in
     let next-is = c.next_of-after.ensures.value in
     let b-is = c.node_point-b.ensures in
     let c-is = c.point_at-c.ensures in
     let s = side_of a.row.now a.n c.loop-i.i c.side_length-new_side.ensures w.1 c-is next-is in
     let q = corners_of a.limit a.points.now a.row.now a.old.now a.n c.loop-i.i c.corners_pass_with.ensures w.0 b-is c-is w.1 next-is (c.if-not-corners_pass_with.false) in (
-      omega (arith, l),
-      every_more (long_enough a.least a.row.now a.n) c.loop-i.i c.loop-i.invariant.1 (far_enough a.least s c.if-new_side-least.false),
-      every_more (corners_good a.limit a.points.now a.old.now a.row.now a.n) c.loop-i.i c.loop-i.invariant.2 q,
+      every_more (long_enough a.least a.row.now a.n) c.loop-i.i c.loop-i.invariant.0 (far_enough a.least s c.if-new_side-least.false),
+      every_more (corners_good a.limit a.points.now a.old.now a.row.now a.n) c.loop-i.i c.loop-i.invariant.1 q,
       c.side_length-next_rung.ensures,
       λ m. let e = next_inner a.n c.loop-i.i l next-is m in
           (b-is ∙ ap (λ (k : ℕ). point_at a.points.now (get_or a.old.now k 0)) e, c-is ∙ ap (point_at a.row.now) e),
@@ -87,5 +78,5 @@ pub returns : goal.returns
 returns c =
     let a = c.args in
     let e : c.loop-i.i ≡ a.n = omega arith in
-    every_end (corners_good a.limit a.points.now a.old.now a.row.now a.n) c.loop-i.i a.n c.loop-i.invariant.2 e
-    ∙ ap (λ b. b && every (corners_good a.limit a.points.now a.old.now a.row.now a.n) a.n) (every_end (long_enough a.least a.row.now a.n) c.loop-i.i a.n c.loop-i.invariant.1 e)
+    every_end (corners_good a.limit a.points.now a.old.now a.row.now a.n) c.loop-i.i a.n c.loop-i.invariant.1 e
+    ∙ ap (λ b. b && every (corners_good a.limit a.points.now a.old.now a.row.now a.n) a.n) (every_end (long_enough a.least a.row.now a.n) c.loop-i.i a.n c.loop-i.invariant.0 e)

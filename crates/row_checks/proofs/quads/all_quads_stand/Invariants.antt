@@ -1,7 +1,7 @@
--- `row_checks::quads::all_quads_stand` meets its contract. The invariant: the sides passed are long enough and the quads passed have good corners, and the turn has its rung and the rung's length. The measure is the quads left.
+-- `row_checks::quads::all_quads_stand` meets its contract. The invariant: the sides passed are long enough and the quads passed have good corners, and the turn has its rung and the rung's length.
 use mathlib.Core.Path.{◌≡◌}
 use mathlib.Core.Bool.{true}
-use Prim.Native.Nat.{◌≤◌, ◌<◌, ◌-◌}
+use Prim.Native.Nat.{◌<◌}
 use lib.ListN.{get_or}
 use Rattle.rules.specs.Checks.{every}
 use Rattle.geometry.specs.Rings.{point_at}
@@ -11,8 +11,5 @@ use Rattle.row_checks.proofs.quads.all_quads_stand.Given as goal
 
 abbrev pub invariant-loop-i : goal.invariant-loop-i
 invariant-loop-i l =
-    (l.i ≤ l.n) × (every (long_enough l.least l.row l.n) l.i ≡ true) × (every (corners_good l.limit l.points l.old l.row l.n) l.i ≡ true)
+    (every (long_enough l.least l.row l.n) l.i ≡ true) × (every (corners_good l.limit l.points l.old l.row l.n) l.i ≡ true)
     × (l.rung ≡ side_length l.a l.d) × (l.i < l.n → (l.a ≡ point_at l.points (get_or l.old l.i 0)) × (l.d ≡ point_at l.row l.i))
-
-abbrev pub decreases-loop-i : goal.decreases-loop-i
-decreases-loop-i l = l.n - l.i

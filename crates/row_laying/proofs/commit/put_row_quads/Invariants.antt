@@ -1,6 +1,5 @@
--- `row_laying::commit::put_row_quads` meets its contract. The invariant: i of the row's quads are written. The measure is the quads left.
+-- `row_laying::commit::put_row_quads` meets its contract. The invariant: i of the row's quads are written.
 use mathlib.Core.Path.{◌≡◌}
-use Prim.Native.Nat.{◌-◌, ◌≤◌}
 use lib.ListN.{length}
 use lib.Seq.{sets}
 use mathlib.Core.List.{map}
@@ -9,7 +8,4 @@ use Rattle.rules.specs.Checks.{row_quads}
 use Rattle.row_laying.proofs.commit.put_row_quads.Given as goal
 
 abbrev pub invariant-loop-i : goal.invariant-loop-i
-invariant-loop-i l = (l.i ≤ l.n) × (length l.quads ≡ length l.initial.quads) × (l.quads ≡ sets l.initial.quads l.at (joined (map quad_nodes (row_quads l.old l.first l.i))))
-
-abbrev pub decreases-loop-i : goal.decreases-loop-i
-decreases-loop-i l = l.n - l.i
+invariant-loop-i l = (length l.quads ≡ length l.initial.quads) × (l.quads ≡ sets l.initial.quads l.at (joined (map quad_nodes (row_quads l.old l.first l.i))))

@@ -14,18 +14,18 @@ begun : (out : List ℕ) (at : ℕ) (p : Point) → Going out at (dot_text p) ou
 unfolding dot_text
 begun out at p = start out at (ascii "M" ∷ place_text p ∷ ascii "h0" ∷ []) refl
 
-pub put_byte-place-requires : goal.put_byte-place-requires
-put_byte-place-requires c =
-    fits (begun c.args.out.now c.args.at c.args.p) c.requires
+pub byte-requires : goal.byte-requires
+byte-requires c =
+    fits (begun c.args.w.now.out.now c.args.w.now.at c.args.p) c.requires
 
-pub put_place-end-requires : goal.put_place-end-requires
-put_place-end-requires c =
-    fits (step (begun c.args.out.now c.args.at c.args.p) c.put_byte-place.ensures) c.requires
+pub put_place-requires : goal.put_place-requires
+put_place-requires c =
+    fits (step (begun c.args.w.now.out.now c.args.w.now.at c.args.p) c.byte.ensures.put) c.requires
 
-pub put_bytes-requires : goal.put_bytes-requires
-put_bytes-requires c =
-    fits (step (step (begun c.args.out.now c.args.at c.args.p) c.put_byte-place.ensures) c.put_place-end.ensures) c.requires
+pub bytes-requires : goal.bytes-requires
+bytes-requires c =
+    fits (step (step (begun c.args.w.now.out.now c.args.w.now.at c.args.p) c.byte.ensures.put) c.put_place.ensures.put) c.requires
 
-pub returns : goal.returns
-returns c =
-    done (step (step (step (begun c.args.out.now c.args.at c.args.p) c.put_byte-place.ensures) c.put_place-end.ensures) c.put_bytes.ensures)
+pub returns-clause-put : goal.returns-clause-put
+returns-clause-put c =
+    done (step (step (step (begun c.args.w.now.out.now c.args.w.now.at c.args.p) c.byte.ensures.put) c.put_place.ensures.put) c.bytes.ensures.put)

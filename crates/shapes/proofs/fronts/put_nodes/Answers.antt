@@ -13,21 +13,21 @@ begun : (out : List ℕ) (at : ℕ) (class : ℕ) (points : List Float) (n : ℕ
 unfolding path_text
 begun out at class points n = start out at (open_text class ∷ dots_text points (numbered 0 n) ∷ ascii "\"/>\n" ∷ []) refl
 
-pub put_open-line-requires : goal.put_open-line-requires
-put_open-line-requires c =
-    fits (begun c.args.out.now c.args.at c.args.class c.args.points.now c.args.n) c.requires.room
+pub put_open-requires : goal.put_open-requires
+put_open-requires c =
+    fits (begun c.args.w.now.out.now c.args.w.now.at c.args.class c.args.points.now c.args.n) c.requires.room
 
-pub put_dots-end-requires : goal.put_dots-end-requires
-put_dots-end-requires c =
+pub put_dots-requires : goal.put_dots-requires
+put_dots-requires c =
     record {
-      room = fits (step (begun c.args.out.now c.args.at c.args.class c.args.points.now c.args.n) c.put_open-line.ensures) c.requires.room;
+      room = fits (step (begun c.args.w.now.out.now c.args.w.now.at c.args.class c.args.points.now c.args.n) c.put_open.ensures.put) c.requires.room;
       n_in_bounds = c.requires.n_in_bounds;
     }
 
-pub put_bytes-requires : goal.put_bytes-requires
-put_bytes-requires c =
-    fits (step (step (begun c.args.out.now c.args.at c.args.class c.args.points.now c.args.n) c.put_open-line.ensures) c.put_dots-end.ensures) c.requires.room
+pub bytes-requires : goal.bytes-requires
+bytes-requires c =
+    fits (step (step (begun c.args.w.now.out.now c.args.w.now.at c.args.class c.args.points.now c.args.n) c.put_open.ensures.put) c.put_dots.ensures.put) c.requires.room
 
-pub returns : goal.returns
-returns c =
-    done (step (step (step (begun c.args.out.now c.args.at c.args.class c.args.points.now c.args.n) c.put_open-line.ensures) c.put_dots-end.ensures) c.put_bytes.ensures)
+pub returns-clause-put : goal.returns-clause-put
+returns-clause-put c =
+    done (step (step (step (begun c.args.w.now.out.now c.args.w.now.at c.args.class c.args.points.now c.args.n) c.put_open.ensures.put) c.put_dots.ensures.put) c.bytes.ensures.put)

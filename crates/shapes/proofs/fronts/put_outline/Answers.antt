@@ -12,21 +12,21 @@ begun : (out : List ℕ) (at : ℕ) (coords : List Float) (loops : List ℕ) →
 unfolding path_text
 begun out at coords loops = start out at (open_text 111 ∷ loops_text coords 0 loops ∷ ascii "\"/>\n" ∷ []) refl
 
-pub put_open-line-requires : goal.put_open-line-requires
-put_open-line-requires c =
-    fits (begun c.args.out.now c.args.at c.args.coords.now c.args.loops.now) c.requires.room
+pub put_open-requires : goal.put_open-requires
+put_open-requires c =
+    fits (begun c.args.w.now.out.now c.args.w.now.at c.args.coords.now c.args.loops.now) c.requires.room
 
-pub put_loops-end-requires : goal.put_loops-end-requires
-put_loops-end-requires c =
+pub put_loops-requires : goal.put_loops-requires
+put_loops-requires c =
     record {
-      room = fits (step (begun c.args.out.now c.args.at c.args.coords.now c.args.loops.now) c.put_open-line.ensures) c.requires.room;
+      room = fits (step (begun c.args.w.now.out.now c.args.w.now.at c.args.coords.now c.args.loops.now) c.put_open.ensures.put) c.requires.room;
       loops_in_bounds = c.requires.loops_in_bounds;
     }
 
-pub put_bytes-requires : goal.put_bytes-requires
-put_bytes-requires c =
-    fits (step (step (begun c.args.out.now c.args.at c.args.coords.now c.args.loops.now) c.put_open-line.ensures) c.put_loops-end.ensures) c.requires.room
+pub bytes-requires : goal.bytes-requires
+bytes-requires c =
+    fits (step (step (begun c.args.w.now.out.now c.args.w.now.at c.args.coords.now c.args.loops.now) c.put_open.ensures.put) c.put_loops.ensures.put) c.requires.room
 
-pub returns : goal.returns
-returns c =
-    done (step (step (step (begun c.args.out.now c.args.at c.args.coords.now c.args.loops.now) c.put_open-line.ensures) c.put_loops-end.ensures) c.put_bytes.ensures)
+pub returns-clause-put : goal.returns-clause-put
+returns-clause-put c =
+    done (step (step (step (begun c.args.w.now.out.now c.args.w.now.at c.args.coords.now c.args.loops.now) c.put_open.ensures.put) c.put_loops.ensures.put) c.bytes.ensures.put)

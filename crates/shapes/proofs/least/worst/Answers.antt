@@ -1,44 +1,25 @@
-use mathlib.Core.Path.{sym, ◌∙◌}
-use Prim.Native.Nat.{◌+◌, ◌-◌, ◌*◌}
-use Rattle.geometry.proofs.Literals.{infinity_is}
-use Rattle.shapes.proofs.Turns.{worst_begin, worst-next, worst_end, four_long}
 use native.Mathlib.Omega.{arith}
+use Rattle.std.proofs.Common.{◌∙◌, ap, sym}
+use Rattle.std.specs.Slice.Iter.{chunks_exact_rest, chunks_exact_size}
+use Rattle.shapes.proofs.Literals.{infinity_is}
+use Rattle.shapes.proofs.Turns.{quads_begin, worst-next, worst_end}
 use Rattle.shapes.proofs.least.worst.Goals as goal
 
-pub loop-i-init : goal.loop-i-init
-loop-i-init c =
-    (omega arith, worst_begin c.args.points.now c.args.quads.now c.args.n _ infinity_is)
-
-pub overflow_mul-start : goal.overflow_mul-start
-overflow_mul-start c = omega arith
-
-pub overflow_add-end : goal.overflow_add-end
-overflow_add-end c = omega arith
-
-pub slice_bounds-worst_of-count : goal.slice_bounds-worst_of-count
-slice_bounds-worst_of-count c = omega arith
+pub loop-nodes-init : goal.loop-nodes-init
+loop-nodes-init c =
+    let e = ap chunks_exact_rest c.into_iter-nodes-iterator.ensures.into_iter_gives ∙ c.chunks_exact-nodes-items.ensures.rest in
+    let s = ap chunks_exact_size c.into_iter-nodes-iterator.ensures.into_iter_gives ∙ c.chunks_exact-nodes-items.ensures.size in
+    (s, rw (e, infinity_is, quads_begin c.args.quads.now c.args.n c.requires))
 
 pub worst_of-requires : goal.worst_of-requires
-worst_of-requires c =
-    let i = c.loop-i.i in
-    let n = c.args.n in
-    let quads = c.args.quads.now in
-    four_long quads n i (i * 4 + 4 - i * 4) (omega arith) c.requires (omega arith)
+worst_of-requires c = c.in-Some.ensures.steps.1.1 ∙ c.loop-nodes.invariant.0
 
-pub overflow_add-i : goal.overflow_add-i
-overflow_add-i c = omega arith
-
-pub loop-i-smaller : goal.loop-i-smaller
-loop-i-smaller c = omega arith
-
-pub loop-i-preserved : goal.loop-i-preserved
-loop-i-preserved c =
-    let i = c.loop-i.i in
-    let n = c.args.n in
-    let points = c.args.points.now in
-    let quads = c.args.quads.now in
-    (omega arith, sym (worst-next points quads n i c.loop-i.least (i * 4 + 4 - i * 4) c.worst_of.result c.lesser-least.result (omega arith) (omega arith) c.worst_of.ensures c.lesser-least.ensures) ∙ c.loop-i.invariant.1)
+pub loop-nodes-preserved : goal.loop-nodes-preserved
+loop-nodes-preserved c =
+    let s = c.in-Some.ensures.steps in
+    (s.0 ∙ c.loop-nodes.invariant.0, sym (worst-next _ c.in-Some.nodes.now (chunks_exact_rest c.next.new.self) s.1.0 (s.1.1 ∙ c.loop-nodes.invariant.0) c.args.points.now c.loop-nodes.least _ c.lesser-least.result c.worst_of.ensures c.lesser-least.ensures) ∙ c.loop-nodes.invariant.1)
 
 pub returns : goal.returns
 returns c =
-    sym (worst_end c.args.points.now c.args.quads.now c.args.n c.loop-i.i c.loop-i.least (omega arith)) ∙ c.loop-i.invariant.1
+    let s = c.in-None.ensures.steps in
+    sym (worst_end (chunks_exact_rest c.loop-nodes.nodes-iterator) (omega (arith, s.1.0, c.loop-nodes.invariant.0)) c.args.points.now c.loop-nodes.least) ∙ c.loop-nodes.invariant.1

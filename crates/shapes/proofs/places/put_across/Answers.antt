@@ -7,6 +7,6 @@ pub put_fixed-requires : goal.put_fixed-requires
 put_fixed-requires c =
     rw (across_is c.args.x _ _ zero_is c.thousandths-n.ensures) c.requires
 
-pub returns : goal.returns
-returns c =
-    rw (across_is c.args.x _ _ zero_is c.thousandths-n.ensures) at c.put_fixed.ensures
+pub returns-clause-put : goal.returns-clause-put
+returns-clause-put c =
+    rw (across_is c.args.x _ _ zero_is c.thousandths-n.ensures) at c.put_fixed.ensures.put

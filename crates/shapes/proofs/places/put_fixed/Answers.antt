@@ -14,22 +14,22 @@ begun : (out : List ℕ) (at : ℕ) (minus : Bool) (n : ℕ) → Going out at (f
 unfolding fixed_text
 begun out at minus n = start out at (sign_text minus n ∷ decimal_text (n / 1000) ∷ ascii "." ∷ low_digits n ∷ []) refl
 
-pub put_sign-whole-requires : goal.put_sign-whole-requires
-put_sign-whole-requires c =
-    fits (begun c.args.out.now c.args.at c.args.minus c.args.n) c.requires
+pub put_sign-requires : goal.put_sign-requires
+put_sign-requires c =
+    fits (begun c.args.w.now.out.now c.args.w.now.at c.args.minus c.args.n) c.requires
 
-pub put_decimal-point-requires : goal.put_decimal-point-requires
-put_decimal-point-requires c =
-    fits (step (begun c.args.out.now c.args.at c.args.minus c.args.n) c.put_sign-whole.ensures) c.requires
+pub decimal-requires : goal.decimal-requires
+decimal-requires c =
+    fits (step (begun c.args.w.now.out.now c.args.w.now.at c.args.minus c.args.n) c.put_sign.ensures.put) c.requires
 
-pub put_byte-low-requires : goal.put_byte-low-requires
-put_byte-low-requires c =
-    fits (step (step (begun c.args.out.now c.args.at c.args.minus c.args.n) c.put_sign-whole.ensures) c.put_decimal-point.ensures) c.requires
+pub byte-requires : goal.byte-requires
+byte-requires c =
+    fits (step (step (begun c.args.w.now.out.now c.args.w.now.at c.args.minus c.args.n) c.put_sign.ensures.put) c.decimal.ensures.put) c.requires
 
 pub put_low-requires : goal.put_low-requires
 put_low-requires c =
-    fits (step (step (step (begun c.args.out.now c.args.at c.args.minus c.args.n) c.put_sign-whole.ensures) c.put_decimal-point.ensures) c.put_byte-low.ensures) c.requires
+    fits (step (step (step (begun c.args.w.now.out.now c.args.w.now.at c.args.minus c.args.n) c.put_sign.ensures.put) c.decimal.ensures.put) c.byte.ensures.put) c.requires
 
-pub returns : goal.returns
-returns c =
-    done (step (step (step (step (begun c.args.out.now c.args.at c.args.minus c.args.n) c.put_sign-whole.ensures) c.put_decimal-point.ensures) c.put_byte-low.ensures) c.put_low.ensures)
+pub returns-clause-put : goal.returns-clause-put
+returns-clause-put c =
+    done (step (step (step (step (begun c.args.w.now.out.now c.args.w.now.at c.args.minus c.args.n) c.put_sign.ensures.put) c.decimal.ensures.put) c.byte.ensures.put) c.put_low.ensures.put)

@@ -13,6 +13,6 @@ begun : (out : List ℕ) (at : ℕ) (n : ℕ) → Going out at (low_digits n) ou
 unfolding joined
 begun out at n = start out at (((48 + n / 100 % 10) ∷ []) ∷ ((48 + n / 10 % 10) ∷ []) ∷ ((48 + n % 10) ∷ []) ∷ []) refl
 
-pub returns : goal.returns
-returns c =
-    done (step (step (step (begun c.args.out.now c.args.at c.args.n) c.put_byte-second.ensures) c.put_byte-third.ensures) c.put_byte.ensures)
+pub returns-clause-put : goal.returns-clause-put
+returns-clause-put c =
+    done (step (step (step (begun c.args.w.now.out.now c.args.w.now.at c.args.n) c.byte.ensures.put) c.byte-2.ensures.put) c.byte-3.ensures.put)

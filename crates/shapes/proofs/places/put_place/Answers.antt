@@ -13,22 +13,22 @@ begun : (out : List ℕ) (at : ℕ) (p : Point) → Going out at (place_text p) 
 unfolding place_text
 begun out at p = start out at (across_text p.x ∷ ascii " " ∷ up_text p.y ∷ ascii " " ∷ []) refl
 
-pub put_across-first-requires : goal.put_across-first-requires
-put_across-first-requires c =
-    fits (begun c.args.out.now c.args.at c.args.p) c.requires
+pub put_across-requires : goal.put_across-requires
+put_across-requires c =
+    fits (begun c.args.w.now.out.now c.args.w.now.at c.args.p) c.requires
 
-pub put_byte-second-requires : goal.put_byte-second-requires
-put_byte-second-requires c =
-    fits (step (begun c.args.out.now c.args.at c.args.p) c.put_across-first.ensures) c.requires
+pub byte-requires : goal.byte-requires
+byte-requires c =
+    fits (step (begun c.args.w.now.out.now c.args.w.now.at c.args.p) c.put_across.ensures.put) c.requires
 
-pub put_up-last-requires : goal.put_up-last-requires
-put_up-last-requires c =
-    fits (step (step (begun c.args.out.now c.args.at c.args.p) c.put_across-first.ensures) c.put_byte-second.ensures) c.requires
+pub put_up-requires : goal.put_up-requires
+put_up-requires c =
+    fits (step (step (begun c.args.w.now.out.now c.args.w.now.at c.args.p) c.put_across.ensures.put) c.byte.ensures.put) c.requires
 
-pub put_byte-requires : goal.put_byte-requires
-put_byte-requires c =
-    fits (step (step (step (begun c.args.out.now c.args.at c.args.p) c.put_across-first.ensures) c.put_byte-second.ensures) c.put_up-last.ensures) c.requires
+pub byte-requires-2 : goal.byte-requires-2
+byte-requires-2 c =
+    fits (step (step (step (begun c.args.w.now.out.now c.args.w.now.at c.args.p) c.put_across.ensures.put) c.byte.ensures.put) c.put_up.ensures.put) c.requires
 
-pub returns : goal.returns
-returns c =
-    done (step (step (step (step (begun c.args.out.now c.args.at c.args.p) c.put_across-first.ensures) c.put_byte-second.ensures) c.put_up-last.ensures) c.put_byte.ensures)
+pub returns-clause-put : goal.returns-clause-put
+returns-clause-put c =
+    done (step (step (step (step (begun c.args.w.now.out.now c.args.w.now.at c.args.p) c.put_across.ensures.put) c.byte.ensures.put) c.put_up.ensures.put) c.byte-2.ensures.put)

@@ -12,18 +12,18 @@ begun : (out : List ℕ) (at : ℕ) (class : ℕ) → Going out at (open_text cl
 unfolding open_text
 begun out at class = start out at (ascii "<path class=\"" ∷ (class ∷ []) ∷ ascii "\" d=\"" ∷ []) refl
 
-pub put_bytes-letter-requires : goal.put_bytes-letter-requires
-put_bytes-letter-requires c =
-    fits (begun c.args.out.now c.args.at c.args.class) c.requires
+pub bytes-requires : goal.bytes-requires
+bytes-requires c =
+    fits (begun c.args.w.now.out.now c.args.w.now.at c.args.class) c.requires
 
-pub put_byte-end-requires : goal.put_byte-end-requires
-put_byte-end-requires c =
-    fits (step (begun c.args.out.now c.args.at c.args.class) c.put_bytes-letter.ensures) c.requires
+pub byte-requires : goal.byte-requires
+byte-requires c =
+    fits (step (begun c.args.w.now.out.now c.args.w.now.at c.args.class) c.bytes.ensures.put) c.requires
 
-pub put_bytes-requires : goal.put_bytes-requires
-put_bytes-requires c =
-    fits (step (step (begun c.args.out.now c.args.at c.args.class) c.put_bytes-letter.ensures) c.put_byte-end.ensures) c.requires
+pub bytes-requires-2 : goal.bytes-requires-2
+bytes-requires-2 c =
+    fits (step (step (begun c.args.w.now.out.now c.args.w.now.at c.args.class) c.bytes.ensures.put) c.byte.ensures.put) c.requires
 
-pub returns : goal.returns
-returns c =
-    done (step (step (step (begun c.args.out.now c.args.at c.args.class) c.put_bytes-letter.ensures) c.put_byte-end.ensures) c.put_bytes.ensures)
+pub returns-clause-put : goal.returns-clause-put
+returns-clause-put c =
+    done (step (step (step (begun c.args.w.now.out.now c.args.w.now.at c.args.class) c.bytes.ensures.put) c.byte.ensures.put) c.bytes-2.ensures.put)

@@ -14,6 +14,6 @@ pub put_shape-requires : goal.put_shape-requires
 put_shape-requires c =
     rw (tile_is c.args.limit c.args.points.now c.args.nodes.now _ _ c.requires.nodes_len c.worst_of.ensures c.step_of-step.ensures) c.requires.room
 
-pub returns : goal.returns
-returns c =
-    rw (← tile_is c.args.limit c.args.points.now c.args.nodes.now _ _ c.requires.nodes_len c.worst_of.ensures c.step_of-step.ensures) c.put_shape.ensures
+pub returns-clause-put : goal.returns-clause-put
+returns-clause-put c =
+    rw (← tile_is c.args.limit c.args.points.now c.args.nodes.now _ _ c.requires.nodes_len c.worst_of.ensures c.step_of-step.ensures) c.put_shape.ensures.put

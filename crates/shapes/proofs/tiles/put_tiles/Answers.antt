@@ -1,54 +1,35 @@
-use Prim.Native.Nat.{◌+◌, ◌-◌, ◌*◌}
-use lib.ListN.{take, drop}
-use Rattle.state.specs.State.{quads_of}
+use native.Mathlib.Omega.{arith}
+use Rattle.std.proofs.Common.{◌∙◌, ap, sym, refl}
+use Rattle.std.specs.Slice.Iter.{chunks_exact_rest, chunks_exact_size}
 use Rattle.text.proofs.Midst.{begin, more, room, ended, same_rest}
 use Rattle.shapes.specs.Shapes.{tile_text, tiles_text, quad_at}
-use Rattle.shapes.proofs.Turns.{tiles_begin, tiles_next, tiles_end, four_long}
-use native.Mathlib.Omega.{arith}
+use Rattle.shapes.proofs.Turns.{quads_in, quads_begin, tiles_next, tiles_end}
 use Rattle.shapes.proofs.tiles.put_tiles.Goals as goal
 
-pub loop-i-init : goal.loop-i-init
-loop-i-init c =
-    (omega arith, same_rest (tiles_begin c.args.limit c.args.points.now c.args.quads.now c.args.n) (begin _ _ _))
+pub loop-nodes-init : goal.loop-nodes-init
+loop-nodes-init c =
+    let e = ap chunks_exact_rest c.into_iter-nodes-iterator.ensures.into_iter_gives ∙ c.chunks_exact-nodes-items.ensures.rest in
+    let s = ap chunks_exact_size c.into_iter-nodes-iterator.ensures.into_iter_gives ∙ c.chunks_exact-nodes-items.ensures.size in
+    (s, rw e (same_rest (ap (tiles_text c.args.limit c.args.points.now) (sym (quads_begin c.args.quads.now c.args.n c.requires.n_in_bounds))) (begin _ _ _)), refl)
 
-pub overflow_mul-start : goal.overflow_mul-start
-overflow_mul-start c = omega arith
-
-pub overflow_add-end : goal.overflow_add-end
-overflow_add-end c = omega arith
-
-pub slice_bounds-put_tile-count : goal.slice_bounds-put_tile-count
-slice_bounds-put_tile-count c = omega arith
-
-pub put_tile-next-requires : goal.put_tile-next-requires
-put_tile-next-requires c =
-    let i = c.loop-i.i in
-    let n = c.args.n in
-    let points = c.args.points.now in
-    let quads = c.args.quads.now in record {
-      room = room (tile_text c.args.limit points (quad_at (take (i * 4 + 4 - i * 4) (drop (i * 4) quads)))) (tiles_text c.args.limit points (quads_of (n - (i + 1)) (drop ((i + 1) * 4) quads)))
-          (same_rest (tiles_next c.args.limit points quads n i (i * 4 + 4 - i * 4) (omega arith) (omega arith)) c.loop-i.invariant.1) c.requires.room;
-      nodes_len = four_long quads n i (i * 4 + 4 - i * 4) (omega arith) c.requires.n_in_bounds (omega arith);
+pub put_tile-requires : goal.put_tile-requires
+put_tile-requires c =
+    let s = c.in-Some.ensures.steps in
+    let four = s.1.1 ∙ c.loop-nodes.invariant.0 in record {
+      room = room (tile_text c.args.limit c.args.points.now (quad_at c.in-Some.nodes.now)) (tiles_text c.args.limit c.args.points.now (quads_in (chunks_exact_rest c.next.new.self)))
+          (same_rest (tiles_next _ c.in-Some.nodes.now (chunks_exact_rest c.next.new.self) s.1.0 four c.args.limit c.args.points.now) c.loop-nodes.invariant.1) c.requires.room;
+      nodes_len = four;
     }
 
-pub overflow_add-i : goal.overflow_add-i
-overflow_add-i c = omega arith
+pub loop-nodes-preserved : goal.loop-nodes-preserved
+loop-nodes-preserved c =
+    let s = c.in-Some.ensures.steps in
+    (s.0 ∙ c.loop-nodes.invariant.0, more (same_rest (tiles_next _ c.in-Some.nodes.now (chunks_exact_rest c.next.new.self) s.1.0 (s.1.1 ∙ c.loop-nodes.invariant.0) c.args.limit c.args.points.now) c.loop-nodes.invariant.1) c.put_tile.ensures.put, c.put_tile.ensures.same ∙ c.loop-nodes.invariant.2)
 
-pub loop-i-smaller : goal.loop-i-smaller
-loop-i-smaller c = omega arith
+pub returns-clause-put : goal.returns-clause-put
+returns-clause-put c =
+    let s = c.in-None.ensures.steps in
+    ended (same_rest (tiles_end (chunks_exact_rest c.loop-nodes.nodes-iterator) (omega (arith, s.1.0, c.loop-nodes.invariant.0)) c.args.limit c.args.points.now) c.loop-nodes.invariant.1)
 
-pub loop-i-preserved : goal.loop-i-preserved
-loop-i-preserved c =
-    let i = c.loop-i.i in
-    let n = c.args.n in
-    let points = c.args.points.now in
-    let quads = c.args.quads.now in
-    (omega arith, more (same_rest (tiles_next c.args.limit points quads n i (i * 4 + 4 - i * 4) (omega arith) (omega arith)) c.loop-i.invariant.1) c.put_tile-next.ensures)
-
-pub shape_of-out : goal.shape_of-out
-shape_of-out c =
-    c.loop-i.invariant.1.long
-
-pub returns : goal.returns
-returns c =
-    ended (same_rest (tiles_end c.args.limit c.args.points.now c.args.quads.now c.args.n c.loop-i.i (omega arith)) c.loop-i.invariant.1)
+pub returns-clause-same : goal.returns-clause-same
+returns-clause-same c = c.loop-nodes.invariant.2

@@ -1,13 +1,13 @@
--- `shapes::tiles::put_tiles` meets its contract. The invariant: the tiles from i on are left. The measure is their number.
-use Prim.Native.Nat.{◌-◌, ◌*◌, ◌≤◌}
-use lib.ListN.{drop}
+-- `shapes::tiles::put_tiles` meets its contract. The invariant: the tiles to come are left.
+use Rattle.std.proofs.Common.{◌≡◌}
+use Rattle.std.specs.Slice.Iter.{chunks_exact_rest, chunks_exact_size}
 use Rattle.state.specs.State.{quads_of}
 use Rattle.text.proofs.Midst.{Midst}
 use Rattle.shapes.specs.Shapes.{tiles_text}
+use Rattle.shapes.proofs.Turns.{quads_in}
+use Rattle.text.specs.Writing.{Same}
 use Rattle.shapes.proofs.tiles.put_tiles.Given as goal
 
-abbrev pub invariant-loop-i : goal.invariant-loop-i
-invariant-loop-i l = (l.i ≤ l.n) × Midst l.initial.out l.at (tiles_text l.limit l.points (quads_of l.n l.quads)) l.out l.next (tiles_text l.limit l.points (quads_of (l.n - l.i) (drop (l.i * 4) l.quads)))
-
-abbrev pub decreases-loop-i : goal.decreases-loop-i
-decreases-loop-i l = l.n - l.i
+abbrev pub invariant-loop-nodes : goal.invariant-loop-nodes
+invariant-loop-nodes l =
+    (chunks_exact_size l.nodes-iterator ≡ 4) × Midst l.initial.w.out.now l.initial.w.at (tiles_text l.limit l.points (quads_of l.n l.quads)) l.w.out.now l.w.at (tiles_text l.limit l.points (quads_in (chunks_exact_rest l.nodes-iterator))) × Same l.initial.w l.w

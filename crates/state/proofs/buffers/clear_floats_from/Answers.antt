@@ -1,7 +1,6 @@
 -- `state::buffers::clear_floats_from` meets its contract.
-use Rattle.state.proofs.Fill.{fill_from}
+use Rattle.float.proofs.Literals.{zero_is}
 use Rattle.state.proofs.buffers.clear_floats_from.Goals as goal
 
 pub returns : goal.returns
-returns c =
-    fill_from _ c.args.s.now _ c.args.from c.requires c.clear_floats.ensures
+returns c = rw zero_is at c.fill_from.ensures

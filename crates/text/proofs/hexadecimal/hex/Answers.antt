@@ -1,44 +1,31 @@
-use mathlib.Core.Path.{sym, ◌∙◌}
-use native.Mathlib.Nat.{add-zero, pow-suc}
+use mathlib.Core.Path.{◌≡◌, sym, ◌∙◌}
+use Prim.Native.Nat.{◌<◌, ◌^◌, ◌+◌}
+use native.Mathlib.Nat.{pow-suc}
 use native.Mathlib.Numerals.{add-one}
 use native.Mathlib.Omega.{arith}
+use Rattle.text.proofs.FieldLaws.{part_is, part_long}
 use Rattle.text.proofs.HexLaws.{hex_next, hex_end, small_hex}
 use Rattle.text.proofs.hexadecimal.hex.Goals as goal
 
-pub loop-i-init : goal.loop-i-init
-loop-i-init c = (omega arith, omega arith, rw add-zero)
-
 pub overflow_mul-value : goal.overflow_mul-value
-overflow_mul-value c = omega (arith, small_hex c.loop-i.i c.loop-i.value (omega arith) c.loop-i.invariant.1)
-
-pub overflow_add-at : goal.overflow_add-at
-overflow_add-at c = omega arith
-
-pub bounds-text-at : goal.bounds-text-at
-bounds-text-at c = omega arith
-
-pub hex_value-requires : goal.hex_value-requires
-hex_value-requires c = tt
+overflow_mul-value c =
+    let l = part_long c.args.text.now c.args.at (c.args.at + 16) (omega arith) c.requires in
+    omega (arith, small_hex c.loop-digit.digit-index c.loop-digit.value (omega arith) c.loop-digit.invariant.0)
 
 pub overflow_add-value : goal.overflow_add-value
 overflow_add-value c =
-    omega (arith, small_hex c.loop-i.i c.loop-i.value (omega arith) c.loop-i.invariant.1)
+    let l = part_long c.args.text.now c.args.at (c.args.at + 16) (omega arith) c.requires in
+    omega (arith, small_hex c.loop-digit.digit-index c.loop-digit.value (omega arith) c.loop-digit.invariant.0)
 
-pub overflow_add-i : goal.overflow_add-i
-overflow_add-i c = omega arith
-
-pub loop-i-smaller : goal.loop-i-smaller
-loop-i-smaller c = omega arith
-
-pub loop-i-preserved : goal.loop-i-preserved
-loop-i-preserved c =
-    let i = c.loop-i.i in
+pub loop-digit-preserved : goal.loop-digit-preserved
+loop-digit-preserved c =
+    let i = c.loop-digit.digit-index in
     let p = pow-suc 16 i in (
-      omega arith,
       rw (add-one, p) (omega arith),
-      c.loop-i.invariant.2 ∙ hex_next c.args.text.now c.args.at i c.loop-i.value c.hex_value.result (omega arith) c.requires c.hex_value.ensures.0,
+      c.loop-digit.invariant.1 ∙ hex_next _ i c.loop-digit.value c.hex_value.result c.loop-digit-test.true c.hex_value.ensures.0,
     )
 
 pub returns : goal.returns
 returns c =
-    sym (c.loop-i.invariant.2 ∙ hex_end c.args.text.now c.args.at c.loop-i.i c.loop-i.value (omega arith))
+    let s = part_is c.args.text.now c.args.at (c.args.at + 16) (omega arith) in
+    sym (rw (← s) (c.loop-digit.invariant.1 ∙ hex_end _ c.loop-digit.digit-index c.loop-digit.value c.loop-digit-test.false))

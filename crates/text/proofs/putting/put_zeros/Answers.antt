@@ -1,29 +1,16 @@
+-- `text::putting::put_zeros` meets its contract.
+use mathlib.Core.Path.{◌≡◌, ◌∙◌, ap}
 use native.Mathlib.Omega.{arith}
-use lib.ListN.{length}
-use Rattle.text.proofs.Midst.{begin, zero_more, zeros_end}
+use Rattle.std.proofs.Common.{◌-◌, length, replicate, ℕ}
+use lib.ListN.{length-replicate}
+use Rattle.text.proofs.FieldLaws.{part_long}
+use Rattle.text.proofs.Midst.{part_put}
 use Rattle.text.proofs.putting.put_zeros.Goals as goal
-
-pub loop-i-init : goal.loop-i-init
-loop-i-init c = (omega arith, begin _ _ _)
-
-pub bounds-out-i : goal.bounds-out-i
-bounds-out-i c = omega arith
-
-pub overflow_add-i : goal.overflow_add-i
-overflow_add-i c = omega arith
-
-pub loop-i-smaller : goal.loop-i-smaller
-loop-i-smaller c = omega arith
-
-pub loop-i-preserved : goal.loop-i-preserved
-loop-i-preserved c =
-    let loop = c.loop-i in
-    (omega arith, zero_more (length c.args.out.now) loop.i (omega arith) loop.invariant.1)
-
-pub shape_of-out : goal.shape_of-out
-shape_of-out c = c.loop-i.invariant.1.long
 
 pub returns : goal.returns
 returns c =
-    let loop = c.loop-i in
-    zeros_end (length c.args.out.now) loop.i (omega arith) loop.invariant.1
+    let out = c.args.out.now in
+    let k = length out - c.args.at in
+    let zeros : c.fill.new.self ≡ replicate k 0 = c.fill.ensures.after (λ y e. e) ∙ ap (λ (n : ℕ). replicate n 0) (part_long out c.args.at (length out) c.requires (omega arith)) in
+    let l = length-replicate {A = ℕ} k 0 in
+    rw zeros (part_put out (replicate k 0) c.args.at (length out) (omega arith) (omega arith))

@@ -1,13 +1,10 @@
 -- `tile_list::quads::all_different` meets its contract. The invariant: what is left of the quads decides.
 use mathlib.Core.Path.{◌≡◌}
-use Prim.Native.Nat.{◌-◌, ◌≤◌}
+use Rattle.std.specs.Slice.Iter.{chunks_exact_rest, chunks_exact_size}
 use Rattle.state.specs.State.{quads_of}
+use Rattle.answer_text.proofs.LineLaws.{all_quads}
 use Rattle.tile_text.specs.TileList.{every_quad, four_different}
-use Rattle.tile_list.proofs.Turns.{rest}
 use Rattle.tile_list.proofs.quads.all_different.Given as goal
 
-abbrev pub invariant-loop-i : goal.invariant-loop-i
-invariant-loop-i l = (l.i ≤ l.n) × (every_quad four_different (quads_of l.n l.quads) ≡ rest four_different l.quads l.n l.i)
-
-abbrev pub decreases-loop-i : goal.decreases-loop-i
-decreases-loop-i l = l.n - l.i
+abbrev pub invariant-loop-nodes : goal.invariant-loop-nodes
+invariant-loop-nodes l = (chunks_exact_size l.nodes-iterator ≡ 4) × (every_quad four_different (quads_of l.n l.quads) ≡ every_quad four_different (all_quads (chunks_exact_rest l.nodes-iterator)))

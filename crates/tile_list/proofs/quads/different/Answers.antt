@@ -1,31 +1,17 @@
 -- `tile_list::quads::different` meets its contract.
 use Rattle.tile_list.proofs.Turns.{same_ab, same_ac, same_ad, same_bc, same_bd, last_two}
 use Rattle.tile_list.proofs.quads.different.Goals as goal
+use Rattle.tile_list.proofs.quads.different.Goals.{then-a-b-via-then-a-b, then-a-b-via-else-a-b+then-a-c, then-a-b-via-else-a-b+else-a-c+then-a-d, then-a-b-via-else-a-b+else-a-c+else-a-d+then-b-c, then-a-b-via-else-a-b+else-a-c+else-a-d+else-b-c+then-b-d}
 
-pub returns-then-q : goal.returns-then-q
-returns-then-q c = let q = c.args.q in same_ab q.a q.b q.c q.d c.if-q.true
-
-pub returns-then-q-2 : goal.returns-then-q-2
-returns-then-q-2 c =
-    let q = c.args.q in
-    same_ac q.a q.b q.c q.d c.if-q.false c.if-q-2.true
-
-pub returns-then-q-3 : goal.returns-then-q-3
-returns-then-q-3 c =
-    let q = c.args.q in
-    same_ad q.a q.b q.c q.d c.if-q.false c.if-q-2.false c.if-q-3.true
-
-pub returns-then-q-4 : goal.returns-then-q-4
-returns-then-q-4 c =
-    let q = c.args.q in
-    same_bc q.a q.b q.c q.d c.if-q.false c.if-q-2.false c.if-q-3.false c.if-q-4.true
-
-pub returns-then-q-5 : goal.returns-then-q-5
-returns-then-q-5 c =
-    let q = c.args.q in
-    same_bd q.a q.b q.c q.d c.if-q.false c.if-q-2.false c.if-q-3.false c.if-q-4.false c.if-q-5.true
+pub returns-then-a-b : goal.returns-then-a-b
+returns-then-a-b c =
+    elim c.then-a-b.branch [
+      | then-a-b-via-then-a-b w ↦ same_ab _ _ _ _ w.if-a-b.true
+      | then-a-b-via-else-a-b+then-a-c w ↦ same_ac _ _ _ _ w.if-a-b.false w.if-a-c.true
+      | then-a-b-via-else-a-b+else-a-c+then-a-d w ↦ same_ad _ _ _ _ w.if-a-b.false w.if-a-c.false w.if-a-d.true
+      | then-a-b-via-else-a-b+else-a-c+else-a-d+then-b-c w ↦ same_bc _ _ _ _ w.if-a-b.false w.if-a-c.false w.if-a-d.false w.if-b-c.true
+      | then-a-b-via-else-a-b+else-a-c+else-a-d+else-b-c+then-b-d w ↦ same_bd _ _ _ _ w.if-a-b.false w.if-a-c.false w.if-a-d.false w.if-b-c.false w.if-b-d.true
+    ]
 
 pub returns : goal.returns
-returns c =
-    let q = c.args.q in
-    last_two q.a q.b q.c q.d c.if-q.false c.if-q-2.false c.if-q-3.false c.if-q-4.false c.if-q-5.false
+returns c = last_two _ _ _ _ c.if-a-b.false c.if-a-c.false c.if-a-d.false c.if-b-c.false c.if-b-d.false

@@ -5,5 +5,4 @@ use Rattle.tile_list.proofs.quads.passes.Goals as goal
 
 pub returns : goal.returns
 unfolding quad_passes
-returns c =
-    c.corners_pass.ensures ∙ rw (c.point_at-a.ensures, c.point_at-b.ensures, c.point_at-c.ensures, c.point_at-d.ensures, c.wide.ensures, c.wide-2.ensures, c.wide-3.ensures, c.wide-4.ensures)
+returns c = c.corners_pass.ensures ∙ rw (c.node_point-a.ensures, c.node_point-b.ensures, c.node_point-c.ensures, c.node_point-d.ensures)

@@ -1,5 +1,5 @@
 -- `tile_list::verdict::is_readable` meets its contract.
-use mathlib.Core.Path.{◌≡◌, sym, ◌∙◌, ap}
+use mathlib.Core.Path.{◌≡◌, sym, ◌∙◌}
 use mathlib.Core.List.{List, ◌++◌}
 use Prim.Native.Nat.{ℕ}
 use native.Mathlib.Nat.{zero-add}
@@ -50,19 +50,8 @@ put_list-end-requires c =
       sound = state_sound s.points.now s.quads.now s.loop_nodes.now s.loop_lengths.now s.front_nodes.now s.front_lengths.now s.counts s.loops r.counts_value r.loops_value a;
     }
 
-pub returns-then-end-input : goal.returns-then-end-input
-returns-then-end-input c =
-    let state : Held = held c.args.points.now c.args.quads.now c.args.front_nodes.now c.args.front_lengths.now c.args.counts in
-    let others : Held = held c.args.points.now c.args.quads.now c.args.loop_nodes.now c.args.loop_lengths.now (with_loops c.args.counts c.args.loops) in
-    let list : TileList = list_in state others in
-    let whole : loops_text (cut (take c.args.loops c.args.loop_lengths.now) c.args.loop_nodes.now) ++ state_text (reading state) ≡ list_text list = text_is c.args.input.now c.args.points.now c.args.quads.now c.args.loop_nodes.now c.args.loop_lengths.now c.args.front_nodes.now c.args.front_lengths.now c.args.quad_lengths.now c.args.counts c.args.loops in
-    let place = c.put_list-end.ensures.put.place in
-    not_readable _ list _
-    (refused_bytes c.args.input.now c.args.points.now c.args.quads.now c.args.loop_nodes.now c.args.loop_lengths.now c.args.front_nodes.now c.args.front_lengths.now c.args.quad_lengths.now c.args.counts c.args.loops c.requires.list_read_is
-    (λ e. c.if-end-input.true (place ∙ zero-add _ ∙ ap length (whole ∙ e))))
-
-pub slice_bounds-begins_with-end-2 : goal.slice_bounds-begins_with-end-2
-slice_bounds-begins_with-end-2 c =
+pub slice_bounds-eq-end-2 : goal.slice_bounds-eq-end-2
+slice_bounds-eq-end-2 c =
     let room = c.requires.list_room_in_bounds in
     let end = c.put_list-end.ensures.upper_bound in
     let long = c.put_list-end.auto.out in
@@ -84,6 +73,6 @@ returns c =
     let room = c.requires.list_room_in_bounds in
     let most = c.put_list-end.ensures.upper_bound in
     let front : take end c.put_list-end.new.out ≡ T = front_part c.args.out.now T c.put_list-end.new.out end (omega arith) place c.put_list-end.ensures.put.bytes in
-    compared c.args.input.now list c.put_list-end.new.out T _ c.begins_with.result end front c.if-end-input.false place (rw front at c.begins_with.ensures)
+    compared c.args.input.now list c.put_list-end.new.out T c.eq.result end front place (rw front at c.eq.ensures)
     (λ g. refused_bytes c.args.input.now c.args.points.now c.args.quads.now c.args.loop_nodes.now c.args.loop_lengths.now c.args.front_nodes.now c.args.front_lengths.now c.args.quad_lengths.now c.args.counts c.args.loops c.requires.list_read_is (λ e. g (whole ∙ e)))
     (λ e. readable_bytes c.args.input.now c.args.points.now c.args.quads.now c.args.loop_nodes.now c.args.loop_lengths.now c.args.front_nodes.now c.args.front_lengths.now c.args.quad_lengths.now c.args.counts c.args.loops c.requires.list_read_is c.requires.counts_value c.requires.loops_value a (points_fit c.args.input.now c.args.points.now c.args.quads.now c.args.loop_nodes.now c.args.loop_lengths.now c.args.front_nodes.now c.args.front_lengths.now c.args.quad_lengths.now c.args.counts c.args.loops (λ i. c.shared_slice_known-4-1.given i) (let n = b.points in let l = b.points_long in omega arith)) (sym whole ∙ e))

@@ -1,13 +1,7 @@
 -- `tile_text::numbers::number_in` meets its contract.
-use mathlib.Core.Path.{sym, ◌∙◌, ap}
-use Rattle.text.specs.Number.{number_in}
-use Rattle.tile_text.proofs.Numbering.{found_is, none_is}
+use mathlib.Core.Path.{◌∙◌}
+use Rattle.tile_text.proofs.Numbering.{number_is}
 use Rattle.tile_text.proofs.numbers.number_in.Goals as goal
 
-pub returns-in-Is : goal.returns-in-Is
-returns-in-Is c =
-    found_is _ (sym c.natural.ensures ∙ ap number_in c.in-Is.is)
-
-pub returns-in-No : goal.returns-in-No
-returns-in-No c =
-    none_is _ (sym c.natural.ensures ∙ ap number_in c.in-No.is)
+pub returns : goal.returns
+returns c = λ n h w. c.unwrap_or.ensures ∙ number_is _ c.natural.result c.natural.ensures n h w

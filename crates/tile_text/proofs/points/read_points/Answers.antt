@@ -42,8 +42,7 @@ pub coordinate-y-requires : goal.coordinate-y-requires
 coordinate-y-requires c = tt
 
 pub store_point-requires : goal.store_point-requires
-store_point-requires c =
-    c.loop-next.invariant.0 ∙ c.requires.1
+store_point-requires c = let l = c.loop-next.invariant.0 ∙ c.requires.1 in omega arith
 
 pub overflow_add-count : goal.overflow_add-count
 overflow_add-count c =
@@ -59,7 +58,7 @@ loop-next-smaller c = omega arith
 pub loop-next-preserved : goal.loop-next-preserved
 loop-next-preserved c =
     let l = c.loop-next in (
-      c.store_point.auto.points ∙ l.invariant.0,
+      c.store_point.auto.coords ∙ l.invariant.0,
       left_step _ _ _ l.points l.next l.count l.invariant.1 c.loop-next-test.true c.if-text-next-ne112.false _ _ _ _ c.hex.ensures c.coordinate-x.ensures c.hex-in-loop-next.ensures c.coordinate-y.ensures _ c.store_point.ensures,
     )
 

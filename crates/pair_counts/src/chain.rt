@@ -1,0 +1,28 @@
+// The higher nodes along one chain of sides.
+ghost use Rattle.std.specs.Iterator.{YieldsFirst, item_count};
+ghost use Rattle.pair_counts.specs.Chains.{Walk, chain};
+
+use geometry::wide;
+
+// What is left of a chain. A place is held as one more than its number, and 0 ends the chain.
+#[derive(Clone, Copy)]
+pub struct Chain<'a> {
+    pub highs: &'a [u16],
+    pub behind: &'a [u16],
+    pub place: u16,
+    ghost walk: { Walk highs.now behind.now place },
+}
+
+impl<'a> Iterator for Chain<'a> {
+    type Item = u16;
+
+    ghost next_gives = { YieldsFirst (λ s. chain s.behind.now s.highs.now s.place) };
+
+    ghost remaining = { item_count (λ s. chain s.behind.now s.highs.now s.place) };
+
+    fn next(&mut self) -> Option<u16> {
+        let i = wide(self.place.checked_sub(1)?);
+        self.place = self.behind[i];
+        Some(self.highs[i])
+    }
+}

@@ -1,5 +1,0 @@
-use Rattle.standard.proofs.Long.{long}
-use Rattle.standard.proofs.buffers.input_buffer.Goals as goal
-
-pub returns : goal.returns
-returns c = long 65537

@@ -1,7 +1,0 @@
--- `state::buffers::clear_nodes_from` meets its contract.
-use Rattle.state.proofs.Fill.{fill_from}
-use Rattle.state.proofs.buffers.clear_nodes_from.Goals as goal
-
-pub returns : goal.returns
-returns c =
-    fill_from _ c.args.s.now _ c.args.from c.requires c.clear_nodes.ensures
