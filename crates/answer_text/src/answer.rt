@@ -1,8 +1,8 @@
 // The text of a state, of a refusal, and of either.
 ghost use Rattle.std.specs.Prelude.{[], ◌∷◌, ◌+◌, ◌≤◌, length};
 ghost use Rattle.state.specs.State.{no_counts, reading};
-ghost use Rattle.state.specs.Call.{held, left};
-ghost use Rattle.state.specs.Lent.{held_in};
+ghost use Rattle.state.specs.Call.{left};
+ghost use Rattle.state.specs.Lent.{held_of};
 ghost use Rattle.state.specs.Refusals.{answered};
 ghost use Rattle.state.specs.Sound.{Sound};
 ghost use Rattle.text.specs.Writing.{Fits, Same, Wrote};
@@ -10,7 +10,7 @@ ghost use Rattle.answer_text.specs.AnswerText.{line_text, count_numbers, state_t
 ghost use Rattle.answer_text.specs.Fits.{text_limit, SoundAnswer};
 
 use crate::lines::{put_number, put_points, put_quads, put_rings};
-use state::{Counts, Lent, Refusal};
+use state::{Buffers, Counts, Refusal, fit_nodes};
 use text::Writer;
 
 fn put_counts(w: &mut Writer, counts: Counts)
@@ -29,32 +29,26 @@ fn put_counts(w: &mut Writer, counts: Counts)
         counts.passes_begun,
         counts.laid,
     ] {
+        // as: Rust has no From between usize and u64
         put_number(w, count as u64);
     }
     w.byte(b'\n');
 }
 
-// The text of a state, of four slices: of a slice the check knows that its numbers fit, of a field it does not.
-pub fn put_held(
-    w: &mut Writer,
-    points: &[f64],
-    quads: &[u16],
-    front_nodes: &[u16],
-    front_lengths: &[u16],
-    counts: Counts,
-)
+// The text of a state.
+pub fn put_held(w: &mut Writer, held: &Buffers, counts: Counts)
     requires text_limit_in_bounds { w.old.at + text_limit ≤ length w.old.out.now }
-    requires sound { Sound (held points.now quads.now front_nodes.now front_lengths.now counts) }
-    ensures put { Wrote w.old (state_text (reading (held points.now quads.now front_nodes.now front_lengths.now counts))) w.new }
+    requires sound { Sound (held_of held.now counts) }
+    ensures put { Wrote w.old (state_text (reading (held_of held.now counts))) w.new }
     ensures upper_bound { w.new.at ≤ w.old.at + text_limit }
     ensures same { Same w.old w.new }
 {
-    let coords = counts.points * 2;
-    let fronts = counts.fronts;
+    let quads = fit_nodes(held.quads);
+    let front_nodes = fit_nodes(held.front_nodes);
     put_counts(w, counts);
-    put_points(w, &points[..coords]);
-    put_quads(w, quads, counts.quads);
-    put_rings(w, b'f', front_nodes, &front_lengths[..fronts]);
+    put_points(w, &held.points[..counts.points * 2]);
+    put_quads(w, &quads[..counts.quads * 4]);
+    put_rings(w, b'f', front_nodes, &held.front_lengths[..counts.fronts]);
 }
 
 pub fn put_refused(w: &mut Writer, number: u32)
@@ -68,33 +62,15 @@ pub fn put_refused(w: &mut Writer, number: u32)
     w.byte(b'\n');
 }
 
-// The text of a state.
-pub fn put_state(w: &mut Writer, lent: &Lent, counts: Counts)
+pub fn put_answer(w: &mut Writer, answer: Result<Counts, Refusal>, held: &Buffers)
     requires text_limit_in_bounds { w.old.at + text_limit ≤ length w.old.out.now }
-    requires sound { Sound (held_in lent.now counts) }
-    ensures put { Wrote w.old (state_text (reading (held_in lent.now counts))) w.new }
-    ensures upper_bound { w.new.at ≤ w.old.at + text_limit }
-    ensures same { Same w.old w.new }
-{
-    put_held(
-        w,
-        lent.points,
-        lent.quads,
-        lent.front_nodes,
-        lent.front_lengths,
-        counts,
-    );
-}
-
-pub fn put_answer(w: &mut Writer, answer: Result<Counts, Refusal>, lent: &Lent)
-    requires text_limit_in_bounds { w.old.at + text_limit ≤ length w.old.out.now }
-    requires sound_answer { SoundAnswer (left (answered answer) (held_in lent.now no_counts)) }
-    ensures put { Wrote w.old (answer_text (left (answered answer) (held_in lent.now no_counts))) w.new }
+    requires sound_answer { SoundAnswer (left (answered answer) (held_of held.now no_counts)) }
+    ensures put { Wrote w.old (answer_text (left (answered answer) (held_of held.now no_counts))) w.new }
     ensures upper_bound { w.new.at ≤ w.old.at + text_limit }
     ensures same { Same w.old w.new }
 {
     match answer {
-        Ok(counts) => put_state(w, lent, counts),
+        Ok(counts) => put_held(w, held, counts),
         Err(refusal) => put_refused(w, refusal.number()),
     }
 }

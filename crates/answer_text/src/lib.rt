@@ -4,5 +4,5 @@
 mod answer;
 mod lines;
 
-pub use answer::{put_answer, put_held, put_refused, put_state};
+pub use answer::{put_answer, put_held, put_refused};
 pub use lines::put_rings;

@@ -1,5 +1,5 @@
 // Lines of an answer: numbers behind a word, points, quads and fronts.
-ghost use Rattle.std.specs.Prelude.{[], ◌∷◌, map, ◌*◌, ◌≤◌, length};
+ghost use Rattle.std.specs.Prelude.{[], ◌∷◌, map, ◌/◌, ◌≤◌, length};
 ghost use Rattle.geometry.specs.Domain.{sum_of};
 ghost use Rattle.state.specs.State.{quad_nodes, quads_of, cut};
 ghost use Rattle.text.specs.Decimal.{decimal_text};
@@ -71,19 +71,19 @@ pub fn put_points(w: &mut Writer, points: &[f64])
     }
 }
 
-// The first `n` quads.
-pub fn put_quads(w: &mut Writer, quads: &[u16], n: usize)
-    requires room { Fits w.old (lines_text (113 ∷ []) (map quad_nodes (quads_of n quads.now))) }
-    requires n_in_bounds { n * 4 ≤ length quads.now }
-    ensures put { Wrote w.old (lines_text (113 ∷ []) (map quad_nodes (quads_of n quads.now))) w.new }
+pub fn put_quads(w: &mut Writer, quads: &[u16])
+    requires { Fits w.old (lines_text (113 ∷ []) (map quad_nodes (quads_of (length quads.now / 4) quads.now))) }
+    ensures put { Wrote w.old (lines_text (113 ∷ []) (map quad_nodes (quads_of (length quads.now / 4) quads.now))) w.new }
     ensures same { Same w.old w.new }
 {
-    for quad in quads[..n * 4].chunks_exact(4) {
+    for quad in quads.chunks_exact(4) {
         put_line(w, b'q', quad);
     }
 }
 
-// A line for each of the lists of nodes that stand one after the other, of these lengths.
+// A line for each of the lists of nodes that stand one after the other, of these lengths. Two slices and no value that has their
+// fact: those of state and pair_counts ask something of the nodes too, and one more type for one function is no plainer. `scan` would keep
+// the sum `start` inside a closure.
 pub fn put_rings(w: &mut Writer, letter: u8, nodes: &[u16], lengths: &[u16])
     requires room { Fits w.old (lines_text (letter ∷ []) (cut lengths.now nodes.now)) }
     requires lengths_in_bounds { sum_of lengths.now ≤ length nodes.now }

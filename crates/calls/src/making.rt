@@ -89,7 +89,7 @@ pub fn run(rt: &impl Print, job: &Job, letters: &[u8]) {
         Err(refusal) => show_refused(rt, refusal.number()),
         Ok(counts) => {
             let counts = make_all(rt, job, others, &mut lent, counts);
-            show_state(rt, &lent, counts);
+            show_state(rt, &lent.read(), counts);
         }
     }
 }

@@ -14,6 +14,7 @@ fn put_count(w: &mut Writer, name: &[u8], n: usize)
     ensures same { Same w.old w.new }
 {
     w.bytes(name);
+    // as: Rust has no From between usize and u64
     w.decimal(n as u64);
 }
 

@@ -3,3 +3,4 @@ pub mod Packing
 pub mod Marked
 pub mod Writing
 pub mod Fitting
+pub mod Quads

@@ -17,10 +17,10 @@ use Rattle.closing.specs.declared.keeping.Place.{Place}
 use Rattle.closing.specs.Keeping.{kept_by}
 use Rattle.closing.proofs.Moving.{behind-sets}
 
--- the buffers N and L hold the fronts, as many as there are marks
-module _ (N L : List ℕ) (marks : List Bool) where
+-- the buffers N and L hold m fronts, each with its mark
+module _ (N L : List ℕ) (marks : List Bool) (m : ℕ) where
   abbrev pub sizes : List ℕ
-  sizes = take (length marks) L
+  sizes = take m L
 
   abbrev pub fronts : List (List ℕ)
   fronts = cut sizes N
@@ -42,11 +42,11 @@ module _ (N L : List ℕ) (marks : List Bool) where
   unfolding kept_by joined sum_of
   moved_none = record { nodes = refl; lengths = refl; node = refl; front = refl; start = refl; low = omega arith; few = omega arith }
 
-  module _ (long : length marks ≤ length L) (fits : sum_of sizes ≤ length N) where
-    sizes_long : length sizes ≡ length marks
-    sizes_long = length-take-le (length marks) L long
+  module _ (long : m ≤ length L) (fits : sum_of sizes ≤ length N) where
+    sizes_long : length sizes ≡ m
+    sizes_long = length-take-le m L long
 
-    module _ (n l : List ℕ) (place : Place) (s i : ℕ) (moved : Moved n l place s i) (h : i < length marks) where
+    module _ (n l : List ℕ) (place : Place) (s i : ℕ) (moved : Moved n l place s i) (h : i < m) where
       here : i < length sizes
       here = rw sizes_long h
 
@@ -55,8 +55,8 @@ module _ (N L : List ℕ) (marks : List Bool) where
       len_is =
           let few = moved.few in
           let front = moved.front in
-          let m = length-map (kept i) length in
-          ap (λ t. get_or t i 0) moved.lengths ∙ behind-sets (map length (kept i)) L 0 i 0 (omega arith) ∙ sym (get_or-take (length marks) L i 0 h)
+          let w = length-map (kept i) length in
+          ap (λ t. get_or t i 0) moved.lengths ∙ behind-sets (map length (kept i)) L 0 i 0 (omega arith) ∙ sym (get_or-take m L i 0 h)
 
       pub within : s + get_or l i 0 ≤ length N
       within = let w = total_within sizes i here in let e = len_is in let g = moved.start in omega arith
@@ -96,7 +96,7 @@ module _ (N L : List ℕ) (marks : List Bool) where
           rw (k, j) (ap (λ r. sets r (0 + length (map length (kept i))) (cond t (get_or l i 0 ∷ []) [])) moved.lengths ∙ sym (sets-append (map length (kept i)) (cond t (get_or l i 0 ∷ []) []) L 0))
         where
           one : (t : Bool) → map length (cond t (get_or fronts i [] ∷ []) []) ≡ cond t (get_or l i 0 ∷ []) []
-          one true = ap (λ m. m ∷ []) (sym length_is)
+          one true = ap (λ k. k ∷ []) (sym length_is)
           one false = refl
 
       pub moved_more : (t : Bool) (n' l' : List ℕ) (next : Place) → t ≡ get_or marks i false
@@ -139,7 +139,7 @@ module _ (N L : List ℕ) (marks : List Bool) where
               }
 
     -- the places of the kept fronts are within the buffers
-    module _ (n l : List ℕ) (place : Place) (s i : ℕ) (moved : Moved n l place s i) (h : i ≡ length marks) where
+    module _ (n l : List ℕ) (place : Place) (s i : ℕ) (moved : Moved n l place s i) (h : i ≡ m) where
       all : s ≡ sum_of sizes
       all = moved.start ∙ total_all sizes i (h ∙ sym sizes_long)
 
@@ -149,9 +149,9 @@ module _ (N L : List ℕ) (marks : List Bool) where
       pub front_within : place.front ≤ length L
       front_within = let few = moved.few in omega arith
 
-      pub nodes_packed : (t : List ℕ) → length n ≡ length N → t ≡ take place.node n ++ replicate (length n - place.node) 0 → t ≡ padded (length N) 0 (joined (kept (length marks)))
-      nodes_packed t long e = front-padded 0 N (joined (kept (length marks))) n t (length N) place.node node_within (rw h at moved.node) (rw h at moved.nodes) long e
+      pub nodes_packed : (t : List ℕ) → length n ≡ length N → t ≡ take place.node n ++ replicate (length n - place.node) 0 → t ≡ padded (length N) 0 (joined (kept m))
+      nodes_packed t long e = front-padded 0 N (joined (kept m)) n t (length N) place.node node_within (rw h at moved.node) (rw h at moved.nodes) long e
 
-      pub lengths_packed : (t : List ℕ) → length l ≡ length L → t ≡ take place.front l ++ replicate (length l - place.front) 0 → t ≡ padded (length L) 0 (map length (kept (length marks)))
+      pub lengths_packed : (t : List ℕ) → length l ≡ length L → t ≡ take place.front l ++ replicate (length l - place.front) 0 → t ≡ padded (length L) 0 (map length (kept m))
       lengths_packed t long e =
-          front-padded 0 L (map length (kept (length marks))) l t (length L) place.front front_within (rw (h, ← length-map (kept (length marks)) length) at moved.front) (rw h at moved.lengths) long e
+          front-padded 0 L (map length (kept m)) l t (length L) place.front front_within (rw (h, ← length-map (kept m) length) at moved.front) (rw h at moved.lengths) long e

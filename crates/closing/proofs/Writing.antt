@@ -49,12 +49,12 @@ module _ (b : Held) (sound : Sound b) (limit : Float) where
   -- ---- P, Q, N and L are the buffers with zeros behind the state; the marks say which fronts are kept
 
   module _ (P : List Float) (Q N L : List ℕ) (clear : held P Q N L b.counts ≡ written (reading b)) (n : ℕ) (hn : n ≡ length added) (room : b.counts.quads + n ≤ quad_limit)
-      (marks : List Bool) (long : length marks ≡ b.counts.fronts) (right : (i : ℕ) → i < b.counts.fronts → get_or marks i false ≡ stays limit (reading b).points (get_or (reading b).fronts i [])) where
+      (marks : List Bool) (right : (i : ℕ) → i < b.counts.fronts → get_or marks i false ≡ stays limit (reading b).points (get_or (reading b).fronts i [])) where
     abbrev after : State
     after = closed limit (reading b)
 
     abbrev kept : List (List ℕ)
-    kept = kept_by marks (cut (take (length marks) L) N) (length marks)
+    kept = kept_by marks (cut (take b.counts.fronts L) N) b.counts.fronts
 
     clear_sound : Sound (held P Q N L b.counts)
     clear_sound = still_sound b sound (held P Q N L b.counts) clear
@@ -65,7 +65,7 @@ module _ (b : Held) (sound : Sound b) (limit : Float) where
 
     kept_is : kept ≡ after.fronts
     unfolding closed reading
-    kept_is = rw (long, fronts_same) (rw (fronts_read b counted) at (kept_all limit (reading b).points (reading b).fronts marks (λ i h. right i (rw (fronts_read b counted) at h))))
+    kept_is = rw fronts_same (rw (fronts_read b counted) at (kept_all limit (reading b).points (reading b).fronts marks (λ i h. right i (rw (fronts_read b counted) at h))))
 
     points_field : P ≡ (written after).points
     unfolding written closed

@@ -3,6 +3,7 @@
 
 mod call;
 mod keeping;
+mod laying;
 mod step;
 
 pub use call::close;

@@ -1,23 +1,24 @@
--- What the fronts give one after the other, one a turn: their quads, and whether each is kept.
+-- What closes the fronts, gathered one after the other, one a turn.
 use mathlib.Core.Path.{◌≡◌, refl, sym, ◌∙◌, ap}
-use mathlib.Core.Bool.{Bool, false}
+use mathlib.Core.Bool.{Bool}
 use mathlib.Core.List.{List, [], ◌∷◌, ◌++◌, map, map-append, append-nil}
-use Prim.Native.Nat.{ℕ, suc, ◌+◌, ◌*◌, ◌<◌, ◌≤◌}
-use native.Mathlib.Nat.{zero-add, not-suc-le-zero}
+use Prim.Native.Nat.{ℕ, suc, ◌+◌, ◌<◌}
+use native.Mathlib.Nat.{not-suc-le-zero}
 use native.Mathlib.Numerals.{add-one}
 use native.Mathlib.Omega.{arith}
+use borrow.Author.Count.{below_more}
 use lib.Dec.{eqb}
 use lib.Ieee.{Float}
-use lib.ListN.{length, get_or, take, drop, set, length-append, length-drop}
-use lib.Seq.{sets, take-suc, drop-drop}
-use Rattle.geometry.specs.Domain.{sum_of}
-use Rattle.state.specs.State.{Quad, quad_nodes, joined}
-use Rattle.state.proofs.Cutting.{total_more, total_within}
-use Rattle.state.proofs.Growing.{joined-append, numbers, numbers-append, length-numbers}
-use Rattle.state.proofs.Stores.{sets-append, table_step}
+use lib.ListN.{length, get_or, take, set}
+use lib.Seq.{take-suc, get_or-set_same, get_or-set_other}
+use Rattle.std.specs.List.{flat_map}
+use Rattle.std.proofs.lemmas.Grind.{flat_map-append}
+use Rattle.std.proofs.lemmas.List.{take_more_set}
+use Rattle.state.specs.State.{joined}
+use Rattle.state.proofs.Growing.{joined-append}
 use Rattle.rules.specs.Closing.{closure}
 use Rattle.closing_search.specs.declared.front.Closure.{Closure}
-use Rattle.closing_search.specs.declared.front.Closure.TheVariants.{Kept, One, Two}
+use Rattle.closing_search.specs.declared.front.Closure.TheVariants.{Kept}
 use Rattle.closing_search.specs.Closures.{closure_quads}
 use Rattle.closing_search.specs.Finding.{closures_of, stays}
 
@@ -29,53 +30,37 @@ gather_suc g xs i z h =
     ∙ joined-append (map g (take i xs)) (g (get_or xs i z) ∷ [])
     ∙ ap (λ t. joined (map g (take i xs)) ++ t) (append-nil (g (get_or xs i z)))
 
--- ---- the nodes that are ahead, behind those of the first k fronts
+-- the quads of the first i closures, when one more is stored
+stored : (cs : List Closure) (i : ℕ) (c : Closure) → i < length cs → flat_map closure_quads (take (i + 1) (set cs i c)) ≡ flat_map closure_quads (take i cs) ++ closure_quads c
+stored cs i c h =
+    ap (flat_map closure_quads) (take_more_set cs i c h)
+    ∙ flat_map-append closure_quads (take i cs) (c ∷ [])
+    ∙ ap (λ t. flat_map closure_quads (take i cs) ++ t) (append-nil (closure_quads c))
 
-module _ (l xs : List ℕ) (k : ℕ) (h : k < length l) (fits : sum_of l ≤ length xs) (ahead : List ℕ) (rest : ahead ≡ drop (sum_of (take k l)) xs) where
-  pub front_within : get_or l k 0 ≤ length ahead
-  front_within = let w = total_within l k h in rw rest (simp length-drop (omega arith))
-
-  pub rest_more : drop (get_or l k 0) ahead ≡ drop (sum_of (take (k + 1) l)) xs
-  rest_more = rw (rest, drop-drop, total_more l k h)
-
--- ---- the quads of one front more
-
--- two quads written one behind the other
-pub two_quads : (d s t : List ℕ) (at : ℕ) (p q : Quad) → s ≡ sets d at (quad_nodes p) → t ≡ sets s (at + 4) (quad_nodes q) → t ≡ sets d at (numbers (p ∷ q ∷ []))
-unfolding joined
-two_quads d s t at p q hs ht = ht ∙ rw hs (sym (sets-append (quad_nodes p) (quad_nodes q) d at))
-
-pub few_quads : (c : Closure) → length (closure_quads c) ≤ 2
-few_quads Kept = omega arith
-few_quads (One q) = omega arith
-few_quads (Two p q) = omega arith
-
--- after i fronts: the quads found stand at the front of s, which held d before, and each front has its mark
-pub record Found (limit : Float) (pts : List Float) (fs : List (List ℕ)) (d s : List ℕ) (kept : List Bool) (n i : ℕ) : Type 0 where
-  pub count : n ≡ length (closures_of limit pts fs i)
-  pub few : n ≤ i * 2
-  pub stands : s ≡ sets d 0 (numbers (closures_of limit pts fs i))
-  pub marks : (k : ℕ) → k < i → get_or kept k false ≡ stays limit pts (get_or fs k [])
+-- what closes the first i fronts stands at the front of cs
+pub record Found (limit : Float) (pts : List Float) (fs : List (List ℕ)) (cs : List Closure) (i : ℕ) : Type 0 where
+  pub quads : flat_map closure_quads (take i cs) ≡ closures_of limit pts fs i
+  pub marks : (k : ℕ) → k < i → eqb (length (closure_quads (get_or cs k Kept))) 0 ≡ stays limit pts (get_or fs k [])
 
 module _ (limit : Float) (pts : List Float) (fs : List (List ℕ)) where
-  pub found_none : (d : List ℕ) (kept : List Bool) → Found limit pts fs d d kept 0 0
+  pub found_none : (cs : List Closure) → Found limit pts fs cs 0
   unfolding joined
-  found_none d kept = record { count = refl; few = omega arith; stands = refl; marks = λ k h. absurd (not-suc-le-zero h) }
+  found_none cs = record { quads = refl; marks = λ k h. absurd (not-suc-le-zero h) }
 
-  closures_more : (i : ℕ) (qs : List Quad) → i < length fs → qs ≡ closure limit pts (get_or fs i []) → closures_of limit pts fs (i + 1) ≡ closures_of limit pts fs i ++ qs
-  closures_more i qs h e = rw (add-one, e) (gather_suc (closure limit pts) fs i [] h)
-
-  pub found_more : {d s t : List ℕ} {kept : List Bool} {count i n : ℕ} → Found limit pts fs d s kept count i → i < length fs → i < length kept
-      → (f : List ℕ) (c : Closure) → f ≡ get_or fs i [] → closure_quads c ≡ closure limit pts f → t ≡ sets s (count * 4) (numbers (closure_quads c)) → n ≡ length (closure_quads c)
-      → Found limit pts fs d t (set kept i (eqb n 0)) (count + n) (i + 1)
-  found_more {d} {s} {t} {kept} {count} {i} {n} found h g f c hf hc ht hn =
-      let e : closures_of limit pts fs (i + 1) ≡ closures_of limit pts fs i ++ closure_quads c = closures_more i (closure_quads c) h (rw hf at hc) in
-      let l : count * 4 ≡ 0 + length (numbers (closures_of limit pts fs i)) = rw (zero-add, length-numbers, ← found.count) in
-      let few = few_quads c in
-      let before = found.few in
+  pub found_more : {cs : List Closure} {i : ℕ} → Found limit pts fs cs i → i < length fs → i < length cs
+      → (f : List ℕ) (c : Closure) → f ≡ get_or fs i [] → closure_quads c ≡ closure limit pts f → Found limit pts fs (set cs i c) (i + 1)
+  found_more {cs} {i} found h g f c hf hc =
+      let e : closure_quads c ≡ closure limit pts (get_or fs i []) = rw hf at hc in
       record {
-        count = rw (e, length-append, ← hn, ← found.count);
-        few = omega arith;
-        stands = rw (e, numbers-append) (ht ∙ rw (found.stands, l) (sym (sets-append (numbers (closures_of limit pts fs i)) (numbers (closure_quads c)) d 0)));
-        marks = table_step kept false (λ k. stays limit pts (get_or fs k [])) i (eqb n 0) g found.marks (rw (hn, hc, hf));
+        quads = stored cs i c g ∙ rw (found.quads, e, add-one) (sym (gather_suc (closure limit pts) fs i [] h));
+        marks =
+            below_more (λ (k : ℕ). eqb (length (closure_quads (get_or (set cs i c) k Kept))) 0 ≡ stays limit pts (get_or fs k [])) i
+            (λ (k : ℕ) (b : k < i). ap mark (get_or-set_other cs i k c Kept (λ (q : k ≡ i). clash k b q)) ∙ found.marks k b)
+            (ap mark (get_or-set_same cs i c Kept g) ∙ ap (λ t. eqb (length t) 0) e);
       }
+    where
+      mark : Closure → Bool
+      mark c = eqb (length (closure_quads c)) 0
+
+      clash : (k : ℕ) → k < i → k ≡ i → ⊥
+      clash k b q = omega arith

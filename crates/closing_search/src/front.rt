@@ -1,12 +1,14 @@
 // What closes one front.
-ghost use Rattle.std.specs.Prelude.{◌≡◌, ◌||◌, ℕ, ◌*◌, ◌+◌, ◌<◌, eqb, get_or, length};
+ghost use Rattle.std.specs.Prelude.{◌≡◌, ◌||◌, ◌+◌, ◌<◌, eqb, length};
 ghost use Rattle.std.specs.Float.Ieee.{lt};
 ghost use Rattle.rules.specs.Closing.{best_split, close_four, closure};
-ghost use Rattle.closing_search.specs.Closures.{Within, closure_quads, quad_of, split_of};
+ghost use Rattle.closing_search.specs.Closures.{closure_quads, split_of};
 
 use crate::quads::Quad;
+use geometry::NodePoints;
 
-// What closes a front: nothing, and it is kept, or its quads.
+// What closes a front: nothing, and it is kept, or its quads. No `Option`: a front is kept, or closed by one quad, or by two, and an
+// `Option` of quads would have to say a second time how many they are.
 #[derive(Clone, Copy)]
 pub enum Closure {
     Kept,
@@ -25,6 +27,12 @@ impl Closure {
             Closure::Two(_, _) => 2,
         }
     }
+
+    pub fn is_kept(self) -> bool
+        ensures { result ≡ eqb (length (closure_quads self)) 0 }
+    {
+        self.count() == 0
+    }
 }
 
 // A front of six nodes split in two quads that pass the corner test, with their least corner value.
@@ -37,19 +45,18 @@ pub struct Split {
 
 // Four nodes: one quad, if it passes the corner test.
 #[tactic(auto, unfolding(rules::specs::Closing::close_four))]
-fn close_four(points: &[f64], nodes: &[u16], limit: f64) -> Closure
-    requires nodes_len { length nodes.now ≡ 4 }
-    requires by_index { (i : ℕ) → i < length nodes.now → get_or nodes.now i 0 * 2 + 1 < length points.now }
-    ensures { closure_quads result ≡ close_four limit points.now nodes.now }
+fn close_four(front: &NodePoints, limit: f64) -> Closure
+    requires nodes_len { length front.now.nodes.now ≡ 4 }
+    ensures { closure_quads result ≡ close_four limit front.now.pts.now front.now.nodes.now }
 {
     let q = Quad {
-        a: nodes[0],
-        b: nodes[1],
-        c: nodes[2],
-        d: nodes[3],
+        a: front.nodes[0],
+        b: front.nodes[1],
+        c: front.nodes[2],
+        d: front.nodes[3],
     }
-    .turned(points);
-    if q.passes(points, limit) {
+    .turned(front.pts);
+    if q.passes(front.pts, limit) {
         Closure::One(q)
     } else {
         Closure::Kept
@@ -60,46 +67,36 @@ fn close_four(points: &[f64], nodes: &[u16], limit: f64) -> Closure
 fn beats(best: Option<Split>, score: f64) -> bool
     ensures { result ≡ (eqb (length (split_of best).quads) 0 || lt (split_of best).score score) }
 {
-    match best {
-        None => true,
-        Some(best) => best.score < score,
-    }
+    best.is_none_or(|b| b.score < score)
 }
 
 // The better of `best`, of the splits before place `i`, and the split at place `i`, which joins that node with the one opposite.
-fn better_split(
-    points: &[f64],
-    nodes: &[u16],
-    limit: f64,
-    i: usize,
-    best: Option<Split>,
-) -> Option<Split>
-    requires nodes_len { (length nodes.now ≡ 6) × (i < 3) }
-    requires by_index { (i : ℕ) → i < length nodes.now → get_or nodes.now i 0 * 2 + 1 < length points.now }
-    requires best_value { split_of best ≡ best_split limit points.now nodes.now i }
-    ensures { split_of result ≡ best_split limit points.now nodes.now (i + 1) }
+fn better_split(front: &NodePoints, limit: f64, i: usize, best: Option<Split>) -> Option<Split>
+    requires nodes_len { (length front.now.nodes.now ≡ 6) × (i < 3) }
+    requires best_value { split_of best ≡ best_split limit front.now.pts.now front.now.nodes.now i }
+    ensures { split_of result ≡ best_split limit front.now.pts.now front.now.nodes.now (i + 1) }
 {
     let first = Quad {
-        a: nodes[i],
-        b: nodes[i + 1],
-        c: nodes[i + 2],
-        d: nodes[i + 3],
+        a: front.nodes[i],
+        b: front.nodes[i + 1],
+        c: front.nodes[i + 2],
+        d: front.nodes[i + 3],
     }
-    .turned(points);
+    .turned(front.pts);
     let second = Quad {
-        a: nodes[i],
-        b: nodes[i + 3],
-        c: nodes[(i + 4) % 6],
-        d: nodes[(i + 5) % 6],
+        a: front.nodes[i],
+        b: front.nodes[i + 3],
+        c: front.nodes[(i + 4) % 6],
+        d: front.nodes[(i + 5) % 6],
     }
-    .turned(points);
-    if !first.passes(points, limit) {
+    .turned(front.pts);
+    if !first.passes(front.pts, limit) {
         return best;
     }
-    if !second.passes(points, limit) {
+    if !second.passes(front.pts, limit) {
         return best;
     }
-    let score = float::lesser(first.least(points), second.least(points));
+    let score = float::lesser(first.least(front.pts), second.least(front.pts));
     if beats(best, score) {
         return Some(Split {
             first,
@@ -112,14 +109,13 @@ fn better_split(
 
 // Six nodes: the best of three splits, the Rust's `best_six_closure`.
 #[tactic(auto, unfolding(rules::specs::Closing::best_split))]
-fn close_six(points: &[f64], nodes: &[u16], limit: f64) -> Closure
-    requires nodes_len { length nodes.now ≡ 6 }
-    requires by_index { (i : ℕ) → i < length nodes.now → get_or nodes.now i 0 * 2 + 1 < length points.now }
-    ensures { closure_quads result ≡ (best_split limit points.now nodes.now 3).quads }
+fn close_six(front: &NodePoints, limit: f64) -> Closure
+    requires nodes_len { length front.now.nodes.now ≡ 6 }
+    ensures { closure_quads result ≡ (best_split limit front.now.pts.now front.now.nodes.now 3).quads }
 {
     let mut best = None;
     for i in 0..3 {
-        best = better_split(points, nodes, limit, i, best);
+        best = better_split(front, limit, i, best);
     }
     match best {
         None => Closure::Kept,
@@ -127,14 +123,14 @@ fn close_six(points: &[f64], nodes: &[u16], limit: f64) -> Closure
     }
 }
 
+// What closes a front, by how many nodes it has: only four or six are closed.
 #[tactic(auto, unfolding(rules::specs::Closing::closure))]
-pub fn close_front(points: &[f64], nodes: &[u16], limit: f64) -> Closure
-    requires { (i : ℕ) → i < length nodes.now → get_or nodes.now i 0 * 2 + 1 < length points.now }
-    ensures { closure_quads result ≡ closure limit points.now nodes.now }
+pub fn close_front(front: &NodePoints, limit: f64) -> Closure
+    ensures { closure_quads result ≡ closure limit front.now.pts.now front.now.nodes.now }
 {
-    match nodes.len() {
-        4 => close_four(points, nodes, limit),
-        6 => close_six(points, nodes, limit),
+    match front.nodes.len() {
+        4 => close_four(front, limit),
+        6 => close_six(front, limit),
         _ => Closure::Kept,
     }
 }

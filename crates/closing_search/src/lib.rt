@@ -7,3 +7,5 @@ mod front;
 mod quads;
 
 pub use finding::find_closures;
+pub use front::Closure;
+pub use quads::Quad;

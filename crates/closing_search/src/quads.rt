@@ -5,7 +5,7 @@ ghost use Rattle.rules.specs.Checks.{quad_passes};
 ghost use Rattle.rules.specs.Closing.{area_of, least_of, turned_quad};
 ghost use Rattle.closing_search.specs.Closures.{Within, quad_of};
 
-use geometry::{Point, point_at, wide};
+use geometry::{Point, point_at};
 
 // Four nodes, or their points, in order round a quad.
 #[derive(Clone, Copy)]
@@ -22,10 +22,10 @@ impl Quad<u16> {
         ensures { result ≡ record { a = point_at points.now self.a; b = point_at points.now self.b; c = point_at points.now self.c; d = point_at points.now self.d } }
     {
         Quad {
-            a: point_at(points, wide(self.a)),
-            b: point_at(points, wide(self.b)),
-            c: point_at(points, wide(self.c)),
-            d: point_at(points, wide(self.d)),
+            a: point_at(points, usize::from(self.a)),
+            b: point_at(points, usize::from(self.b)),
+            c: point_at(points, usize::from(self.c)),
+            d: point_at(points, usize::from(self.d)),
         }
     }
 

@@ -2,15 +2,8 @@
 // be read, nothing is printed there, and standard error says so; the same when the picture could not be written whole.
 #![tactic(auto)]
 
+// The buffers: one byte more than a job's text may have, since a longer one is cut there and is unreadable all the same; and what
+// `draw_text` asks for.
 fn main(rt: HostRuntime) {
-    let mut input = standard::input_buffer();
-    let Ok(n) = standard::read_input(&mut rt.stdin(), &mut input) else {
-        standard::say_unread(&rt);
-        return;
-    };
-    let mut output = standard::picture_buffer();
-    let m = picture::draw_text(&input[..n], &mut output);
-    if m <= output.len() {
-        standard::write_output(&rt, &output[..m]);
-    }
+    standard::turn::<65537, 1638400, _>(&rt, |text, out| picture::draw_text(text, out));
 }

@@ -24,6 +24,7 @@ pub fn counts_of(counts: &[u64]) -> Counts
     else {
         unreachable!();
     };
+    // as: Rust has no From between u64 and usize
     Counts {
         points: points as usize,
         quads: quads as usize,
@@ -40,6 +41,7 @@ fn put_counts(counts: &mut [u64], after: Counts)
     requires { length counts.old ≡ 8 }
     ensures { counts.new ≡ count_list after }
 {
+    // as: Rust has no From between usize and u64
     counts.copy_from_slice(&[
         after.points as u64,
         after.quads as u64,

@@ -1,11 +1,12 @@
 // The measures of a front: node numbers, each of a point of a list of coordinates.
-ghost use Rattle.std.specs.Prelude.{◌≡◌};
+ghost use Rattle.std.specs.Prelude.{◌≡◌, false, true, MatchOption};
 ghost use Rattle.exports_geometry.specs.Measures.{point};
 ghost use Rattle.exports_geometry.specs.Fronts.{all_below, distance_or, length_or, nodes_fit, within_or_not};
 
-use geometry::Point;
+use geometry::{NodePoints, Point};
 
-// Whether each of a few numbers is below `n`: the first that is not ends the search.
+// Whether each of a few numbers is below `n`: the first that is not ends the search. It stands beside `many_below`, of the same
+// contract, since fewer than sixteen numbers do not fill a turn of that loop.
 fn few_below(numbers: &[u16], n: u16) -> bool
     ensures { result ≡ all_below n numbers.now }
 {
@@ -37,15 +38,25 @@ fn nodes_fit(points: &[f64], nodes: &[u16]) -> bool
     }
 }
 
+// The front's ring, where every node number is that of a point.
+fn front_of<'a>(points: &'a [f64], nodes: &'a [u16]) -> Option<NodePoints<'a>>
+    ensures { MatchOption result (nodes_fit points.now nodes.now ≡ false) (λ front. (nodes_fit points.now nodes.now ≡ true) × (front.pts.now ≡ points.now) × (front.nodes.now ≡ nodes.now)) }
+{
+    if nodes_fit(points, nodes) {
+        return Some(NodePoints { pts: points, nodes });
+    }
+    None
+}
+
 // The length of a front; NaN where a node number is not that of a point.
 #[unsafe(no_mangle)]
 pub extern "C" fn pave_front_length(points: &[f64], nodes: &[u16]) -> f64
     ensures { result ≡ length_or points.now nodes.now }
 {
-    if nodes_fit(points, nodes) {
-        return geometry::front_length(points, nodes);
-    }
-    f64::NAN
+    let Some(front) = front_of(points, nodes) else {
+        return f64::NAN;
+    };
+    geometry::front_length(&front)
 }
 
 // The distance from (x, y) to a front; NaN where a node number is not that of a point.
@@ -53,10 +64,10 @@ pub extern "C" fn pave_front_length(points: &[f64], nodes: &[u16]) -> f64
 pub extern "C" fn pave_front_distance(x: f64, y: f64, points: &[f64], nodes: &[u16]) -> f64
     ensures { result ≡ distance_or (point x y) points.now nodes.now }
 {
-    if nodes_fit(points, nodes) {
-        return geometry::front_distance(Point { x, y }, points, nodes);
-    }
-    f64::NAN
+    let Some(front) = front_of(points, nodes) else {
+        return f64::NAN;
+    };
+    geometry::front_distance(Point { x, y }, &front)
 }
 
 // Whether (x, y) is within a front; false where a node number is not that of a point.
@@ -64,8 +75,8 @@ pub extern "C" fn pave_front_distance(x: f64, y: f64, points: &[f64], nodes: &[u
 pub extern "C" fn pave_in_front(x: f64, y: f64, points: &[f64], nodes: &[u16]) -> bool
     ensures { result ≡ within_or_not (point x y) points.now nodes.now }
 {
-    if nodes_fit(points, nodes) {
-        return geometry::in_front(Point { x, y }, points, nodes);
-    }
-    false
+    let Some(front) = front_of(points, nodes) else {
+        return false;
+    };
+    geometry::in_polygon(Point { x, y }, &front)
 }

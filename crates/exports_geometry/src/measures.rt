@@ -6,7 +6,7 @@ ghost use Rattle.geometry.specs.Measures as geometry_measures;
 ghost use Rattle.input.specs.Limit.{default_limit};
 ghost use Rattle.exports_geometry.specs.Measures.{point, ring, sharp_or_not};
 
-use geometry::Point;
+use geometry::{FirstPoints, Point};
 
 // The square root.
 #[unsafe(no_mangle)]
@@ -139,7 +139,7 @@ pub extern "C" fn pave_quad_area(
 pub extern "C" fn pave_signed_area(points: &[f64]) -> f64
     ensures { result ≡ geometry_measures.signed_area (ring points.now) }
 {
-    geometry::signed_area(points, points.len() / 2)
+    geometry::signed_area(&FirstPoints::all(points))
 }
 
 // Whether (x, y) is within a ring.
@@ -147,7 +147,7 @@ pub extern "C" fn pave_signed_area(points: &[f64]) -> f64
 pub extern "C" fn pave_in_polygon(x: f64, y: f64, points: &[f64]) -> bool
     ensures { result ≡ geometry_measures.in_polygon (point x y) (ring points.now) }
 {
-    geometry::in_polygon(Point { x, y }, points, points.len() / 2)
+    geometry::in_polygon(Point { x, y }, &FirstPoints::all(points))
 }
 
 // Whether the corner at place `i` of a ring is sharp; false where the ring has no such place.
@@ -155,9 +155,9 @@ pub extern "C" fn pave_in_polygon(x: f64, y: f64, points: &[f64]) -> bool
 pub extern "C" fn pave_sharp_at(points: &[f64], i: usize) -> bool
     ensures { result ≡ sharp_or_not points.now i }
 {
-    let n = points.len() / 2;
-    if i < n {
-        return geometry::sharp_at(points, n, i);
+    let ring = FirstPoints::all(points);
+    if i < ring.n {
+        return geometry::sharp_at(&ring, i);
     }
     false
 }

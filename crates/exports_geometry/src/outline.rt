@@ -1,9 +1,9 @@
 // The measures of an outline: the coordinates of all loops and the loops' lengths, the outer one first.
-ghost use Rattle.std.specs.Prelude.{◌≡◌};
+ghost use Rattle.std.specs.Prelude.{◌≡◌, false, true, MatchOption};
 ghost use Rattle.exports_geometry.specs.Measures.{point};
 ghost use Rattle.exports_geometry.specs.Outline.{area_or, boundary_or, contains_or_not, loops_fit};
 
-use geometry::Point;
+use geometry::{Outline, Point};
 
 // Whether the coordinates have points for loops of these lengths. An outline of one loop takes one test.
 fn loops_fit(coords: &[f64], loop_lengths: &[u16]) -> bool
@@ -23,15 +23,28 @@ fn loops_fit(coords: &[f64], loop_lengths: &[u16]) -> bool
     true
 }
 
+// The outline, where the coordinates have points for its loops.
+fn outline_of<'a>(coords: &'a [f64], loop_lengths: &'a [u16]) -> Option<Outline<'a>>
+    ensures { MatchOption result (loops_fit coords.now loop_lengths.now ≡ false) (λ outline. (loops_fit coords.now loop_lengths.now ≡ true) × (outline.coords.now ≡ coords.now) × (outline.loop_lengths.now ≡ loop_lengths.now)) }
+{
+    if loops_fit(coords, loop_lengths) {
+        return Some(Outline {
+            coords,
+            loop_lengths,
+        });
+    }
+    None
+}
+
 // The area within the outer loop and outside the holes; NaN where the lengths ask for more points than there are.
 #[unsafe(no_mangle)]
 pub extern "C" fn pave_domain_area(coords: &[f64], loop_lengths: &[u16]) -> f64
     ensures { result ≡ area_or coords.now loop_lengths.now }
 {
-    if loops_fit(coords, loop_lengths) {
-        return geometry::domain_area(coords, loop_lengths);
-    }
-    f64::NAN
+    let Some(outline) = outline_of(coords, loop_lengths) else {
+        return f64::NAN;
+    };
+    outline.area()
 }
 
 // Whether (x, y) is within the outer loop and outside every hole; false where the lengths ask for more points than there are.
@@ -39,10 +52,10 @@ pub extern "C" fn pave_domain_area(coords: &[f64], loop_lengths: &[u16]) -> f64
 pub extern "C" fn pave_contains(x: f64, y: f64, coords: &[f64], loop_lengths: &[u16]) -> bool
     ensures { result ≡ contains_or_not (point x y) coords.now loop_lengths.now }
 {
-    if loops_fit(coords, loop_lengths) {
-        return geometry::contains(coords, loop_lengths, Point { x, y });
-    }
-    false
+    let Some(outline) = outline_of(coords, loop_lengths) else {
+        return false;
+    };
+    outline.contains(Point { x, y })
 }
 
 // The distance from (x, y) to the nearest side; NaN where the lengths ask for more points than there are.
@@ -55,8 +68,8 @@ pub extern "C" fn pave_distance_to_boundary(
 ) -> f64
     ensures { result ≡ boundary_or (point x y) coords.now loop_lengths.now }
 {
-    if loops_fit(coords, loop_lengths) {
-        return geometry::distance_to_boundary(coords, loop_lengths, Point { x, y });
-    }
-    f64::NAN
+    let Some(outline) = outline_of(coords, loop_lengths) else {
+        return f64::NAN;
+    };
+    outline.distance_to_boundary(Point { x, y })
 }

@@ -9,5 +9,6 @@ ghost use Rattle.tile_list.specs.Recheck.{recheck_call, rechecked};
 pub extern "C" fn pave_recheck(input: &[u8], output: &mut [u8]) -> u64
     ensures { rechecked result output.new ≡ recheck_call input.now output.old }
 {
+    // as: Rust has no From between usize and u64
     tile_list::recheck(input, output) as u64
 }

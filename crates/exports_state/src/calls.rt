@@ -1,5 +1,6 @@
 // The calls over lent buffers: 8,192 f64 for points, 16,384 u16 for quads, 2,048 for front nodes, 16 for front lengths, and
 // the eight counts in document 01's order. Each answers 0 or a refusal's number; another length of a buffer is number 1.
+// The parameters stand apart, as the header for C has them: the options one by one, and each buffer as its own slice.
 ghost use Rattle.std.specs.Prelude.{◌≡◌};
 ghost use Rattle.input.specs.Job.{job};
 ghost use Rattle.rules.specs.RowCall.{row_call};

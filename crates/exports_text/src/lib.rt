@@ -9,5 +9,6 @@ ghost use Rattle.plate_text.specs.PaveText.{text_call, texted};
 pub extern "C" fn pave_text(input: &[u8], output: &mut [u8]) -> u64
     ensures { texted result output.new ≡ text_call input.now output.old }
 {
+    // as: Rust has no From between usize and u64
     plate_text::pave_text(input, output) as u64
 }

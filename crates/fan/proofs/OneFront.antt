@@ -40,8 +40,11 @@ module _ (b : Held) (sound : Sound b) (one : b.counts.fronts ≡ 1) where
   start = refl
 
   module _ (n : ℕ) (hn : n ≡ get_or b.front_lengths 0 0) where
+    pub front_within : n ≤ sum_of (sizes_of b)
+    front_within = let w = total_within (sizes_of b) 0 there in let e = size_is in let s = start in omega arith
+
     pub front_fits : n ≤ length b.front_nodes
-    front_fits = let w = total_within (sizes_of b) 0 there in let f = fits b counted in let e = size_is in let s = start in omega arith
+    front_fits = let w = front_within in let f = fits b counted in omega arith
 
     pub front_long : length (take n b.front_nodes) ≡ n
     front_long = length-take-le n b.front_nodes front_fits

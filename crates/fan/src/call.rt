@@ -15,9 +15,9 @@ pub fn fan(job: &Job, lent: &mut Lent, counts: Counts) -> Result<Counts, Refusal
     ensures same { Same lent.old lent.new }
     ensures left { left (answered result) (held_in lent.new counts) ≡ fan_call (job_of job.now) (held_in lent.old counts) }
 {
-    job.check(lent)?;
+    let accepted = job.check(lent)?;
     if lent.is_wrong(counts) {
         return Err(Refusal::State);
     }
-    fan_fill(job, lent, counts, false)
+    fan_fill(&accepted, lent, counts, false)
 }

@@ -1,13 +1,12 @@
-// The quads of a fan round the point `p`, written into their buffer.
-ghost use Rattle.std.specs.Prelude.{◌≡◌, cond, map, ℕ, ◌%◌, ◌*◌, ◌+◌, ◌/◌, ◌<◌, ◌≤◌, get_or, length};
+// The quads of a fan, written into their buffer.
+ghost use Rattle.std.specs.Prelude.{◌≡◌, cond, map, ◌*◌, ◌+◌, ◌/◌, ◌≤◌, length};
 ghost use Rattle.std.proofs.lemmas.List.Edits.{sets};
 ghost use Rattle.state.specs.Limits.{points_length};
 ghost use Rattle.state.specs.State.{joined, quad, quad_nodes};
 ghost use Rattle.rules.specs.Fan.{fan_quads};
 ghost use Rattle.fan_search.specs.Quads.{with_centre};
 
-use fan_search::is_turned;
-use geometry::Point;
+use fan_search::Fan;
 use state::{narrow, put_quad};
 
 // Writes a quad from place `at` on, turned or not.
@@ -22,16 +21,16 @@ fn put_turned(quads: &mut [u16], at: usize, turned: bool, a: u16, b: u16, c: u16
     }
 }
 
-// The quads of the fan, from place `at` on; the centre has the number behind the points.
-pub fn put_fan(quads: &mut [u16], at: usize, points: &[f64], nodes: &[u16], p: Point)
-    requires nodes_in_bounds { (at + length nodes.now / 2 * 4 ≤ length quads.old) × (length nodes.now % 2 ≡ 0) × (length points.now % 2 ≡ 0) × (length points.now ≤ points_length) }
-    requires by_index { (i : ℕ) → i < length nodes.now → get_or nodes.now i 0 * 2 + 1 < length points.now }
-    ensures { quads.new ≡ sets quads.old at (joined (map quad_nodes (fan_quads (with_centre points.now p) nodes.now (length points.now / 2) (length nodes.now / 2)))) }
+// The fan's quads, from place `at` on; the centre has the number behind the points.
+pub fn put_fan(quads: &mut [u16], at: usize, fan: &Fan)
+    requires { (at + length fan.now.front.nodes.now / 2 * 4 ≤ length quads.old) × (length fan.now.front.pts.now ≤ points_length) }
+    ensures { quads.new ≡ sets quads.old at (joined (map quad_nodes (fan_quads (with_centre fan.now.front.pts.now fan.now.centre) fan.now.front.nodes.now (length fan.now.front.pts.now / 2) (length fan.now.front.nodes.now / 2)))) }
 {
+    let nodes = fan.front.nodes;
     let n = nodes.len();
-    let centre = narrow(points.len() / 2);
+    let centre = narrow(fan.front.pts.len() / 2);
     for k in 0..n / 2 {
-        let turned = is_turned(points, nodes, p, k);
+        let turned = fan.is_turned(k);
         let first = k * 2;
         let second = first + 1;
         let third = geometry::next_of(n, second);

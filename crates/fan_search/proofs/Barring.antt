@@ -1,7 +1,7 @@
 -- A point that is as near to one side as the best point is to its nearest cannot win: the least square is at most that side's, and the root keeps the order.
 use mathlib.Core.Path.{◌≡◌, refl, ap, ◌∙◌, subst}
 use mathlib.Core.Bool.{Bool, true, false, not, cond}
-use mathlib.Core.Logic.{⊎_elim, inr}
+use mathlib.Core.Logic.{⊎_elim}
 use Prim.Native.Nat.{ℕ, zero, suc, ◌<◌}
 use native.Mathlib.Nat.{eq-or-lt_of_le, le_of_suc-le-suc, not-suc-le-zero}
 use lib.Dec.{T}
@@ -15,7 +15,6 @@ use Rattle.geometry.specs.Rings.{Ring}
 use Rattle.geometry.specs.Measures.{short_in_paving, ring_distance}
 use Rattle.geometry.specs.Squares.{nearer, least_square}
 use Rattle.geometry.proofs.Squares.{segment_square_lem, front_least, front-root}
-use Rattle.fan_search.specs.declared.Centre.{Centre}
 use Rattle.fan_search.specs.Squares.{side_square, Squared}
 
 -- ---- the least of some squares
@@ -58,21 +57,19 @@ none_under (inf true) c l = c
 none_under (inf false) c l = l
 none_under (fin t m e) c l = l
 
-module _ (p : Point) (r : Ring) (best : Centre) (known : Squared best) where
+module _ (p : Point) (r : Ring) (clearance square : Float) (known : Squared clearance square) where
   -- a side that is too near
-  pub barred : (i : ℕ) {square : Float} → i < r.size → square ≡ side_square p r i → le square best.square ≡ true → lt best.clearance (ring_distance (inf false) p r r.size) ≡ false
+  pub barred : (i : ℕ) {s : Float} → i < r.size → s ≡ side_square p r i → le s square ≡ true → lt clearance (ring_distance (inf false) p r r.size) ≡ false
   barred i l e h =
-      let near : T (le (side_square p r i) best.square) = rw (← e) (yes h) in
+      let near : T (le (side_square p r i) square) = rw (← e) (yes h) in
       let all = (front_least p r r.size).square in
-      ⊎_elim
-      (λ none. absurd (none_under (side_square p r i) (segment_square_lem short_in_paving p _ _).sign (rw none at near)))
-      (λ some. rw (some.0, ← front-root p r r.size) (not_less _ _ (root_least _ _ all.held some.1 all.sign (least_under p r best.square some.2 r.size i l near))))
-      known
+      let some = known (λ none. none_under (side_square p r i) (segment_square_lem short_in_paving p _ _).sign (rw none at near)) in
+      rw (some.0, ← front-root p r r.size) (not_less _ _ (root_least _ _ all.held some.1 all.sign (least_under p r square some.2 r.size i l near)))
 
 -- the best point after this one, where it is farther
 pub now_squared : (p : Point) (r : Ring) {clearance square : Float} → square ≡ least_square short_in_paving p (inf false) r r.size → clearance ≡ root square
-    → Squared (record { point = p; clearance = clearance; square = square; near = 0 })
-now_squared p r e h = inr (h, rw e (front_least p r r.size).square.held, rw e (front_least p r r.size).square.sign)
+    → Squared clearance square
+now_squared p r e h _ = (h, rw e (front_least p r r.size).square.held, rw e (front_least p r r.size).square.sign)
 
 pub rooted_least : (p : Point) (r : Ring) {clearance square : Float} → square ≡ least_square short_in_paving p (inf false) r r.size → clearance ≡ root square
     → clearance ≡ ring_distance (inf false) p r r.size

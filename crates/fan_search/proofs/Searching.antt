@@ -16,19 +16,6 @@ use mathlib.Core.List.{List}
 
 -- ---- the box
 
-abbrev pub box_of : Float → Float → Float → Float → Box
-box_of left low right high = record { left = left; low = low; right = right; high = high }
-
-pub box_none : (r : Ring) (left low right high : Float) → left ≡ inf false → low ≡ inf false → right ≡ inf true → high ≡ inf true → box_of left low right high ≡ box r 0
-unfolding box
-box_none r left low right high e f g h = rw (e, f, g, h)
-
-pub box_more : (r : Ring) (i : ℕ) (p : Point) (left low right high l b g h : Float) → box_of left low right high ≡ box r i → p ≡ r.at i
-    → l ≡ lesser left p.x → b ≡ lesser low p.y → g ≡ greater right p.x → h ≡ greater high p.y → box_of l b g h ≡ box r (i + 1)
-unfolding box
-box_more r i p left low right high l b g h e hp hl hb hg hh = rw (add-one, ← e, hl, hb, hg, hh, hp)
-
--- the same of the code's boxes
 pub box_first : (r : Ring) → record { left = inf false; low = inf false; right = inf true; high = inf true } ≡ box r 0
 unfolding box
 box_first r = refl

@@ -1,5 +1,5 @@
 -- Squares of distances: what the search compares before it takes a root. `rules` says what the clearance is. Definitions only.
-use Rattle.std.specs.Prelude.{◌≡◌, true, false, ◌⊎◌, ℕ, ◌<◌, T, Float, Result, Ok, Err}
+use Rattle.std.specs.Prelude.{◌≡◌, true, false, ℕ, ◌<◌, T, Float, Result, Ok, Err}
 use Rattle.std.specs.Float.{inf, binary64}
 use Rattle.std.specs.Float.Ieee.{le, fits}
 use Rattle.float.specs.Root.{root}
@@ -8,7 +8,6 @@ use Rattle.geometry.specs.declared.Point.{Point}
 use Rattle.geometry.specs.Rings.{Ring, next}
 use Rattle.geometry.specs.Measures.{short_in_paving}
 use Rattle.geometry.specs.Squares.{segment_square, least_square}
-use Rattle.fan_search.specs.declared.Centre.{Centre}
 
 -- the square of the distance from p to side i of the ring
 abbrev pub side_square : Point → Ring → ℕ → Float
@@ -19,6 +18,6 @@ abbrev pub Seen : Point → Ring → Float → Result Float ℕ → Type 0
 Seen p r bound (Err i) = (i < r.size) × (le (side_square p r i) bound ≡ true)
 Seen p r bound (Ok least) = least ≡ least_square short_in_paving p (inf false) r r.size
 
--- no point has been found yet, and no square is at most this one; or the clearance is the square's root
-abbrev pub Squared : Centre → Type 0
-Squared c = (c.square ≡ inf true) ⊎ ((c.clearance ≡ root c.square) × T (fits binary64 c.square) × T (clear c.square))
+-- where a point has been found, the clearance is the square's root; before, no square is at most this one
+abbrev pub Squared : Float → Float → Type 0
+Squared clearance square = (square ≡ inf true → ⊥) → (clearance ≡ root square) × T (fits binary64 square) × T (clear square)

@@ -1,24 +1,22 @@
 // The fan's centre: the point of a 13 by 13 grid over the front's box that is farthest from the front.
-ghost use Rattle.std.specs.Prelude.{◌≡◌, ℕ, ◌*◌, ◌+◌, ◌<◌, ◌≤◌, get_or, length};
-ghost use Rattle.geometry.specs.Rings.{node_ring};
-ghost use Rattle.geometry.specs.Domain.{rings, sum_of};
+ghost use Rattle.std.specs.Prelude.{◌≡◌};
+ghost use Rattle.geometry.specs.Domain.{rings};
 ghost use Rattle.rules.specs.Fan as fans;
-ghost use Rattle.fan_search.specs.Squares.{Squared};
 ghost use Rattle.fan_search.specs.Values.{boxed, centred};
 
 use crate::squares::{look_at, side_square};
 use crate::{Box, Centre};
-use geometry::{Point, point_at, wide};
+use geometry::{Outline, Point, Ring};
 
-// The box of the points that the nodes name.
+// The box of a ring's points.
 #[tactic(auto, using(crate::proofs::Searching::box_first))]
-fn box_of(points: &[f64], nodes: &[u16]) -> Box
-    requires { (i : ℕ) → i < length nodes.now → get_or nodes.now i 0 * 2 + 1 < length points.now }
-    ensures { boxed result ≡ fans.box (node_ring points.now nodes.now) (length nodes.now) }
+pub fn box_of<R: Ring>(ring: &R) -> Box
+    ensures { boxed result ≡ fans.box (R.ring ring.now) (R.ring ring.now).size }
 {
+    let n = ring.size();
     let mut b = Box::empty();
-    for &node in nodes {
-        b = b.with(point_at(points, wide(node)));
+    for i in 0..n {
+        b = b.with(ring.at(i));
     }
     b
 }
@@ -43,60 +41,46 @@ fn grid_point(b: Box, i: u32, j: u32) -> Point
 
 // `p` where it is in the domain, within the front and farther from it than `best`; otherwise `best`. The side that the point before
 // was too near to comes first, and the domain, in which a front lies, last.
-fn try_point(
-    coords: &[f64],
-    loops: &[u16],
-    points: &[f64],
-    nodes: &[u16],
-    p: Point,
-    best: Centre,
-) -> Centre
-    requires loops_in_bounds { (sum_of loops.now * 2 ≤ length coords.now) × Squared best }
-    requires by_index { (i : ℕ) → i < length nodes.now → get_or nodes.now i 0 * 2 + 1 < length points.now }
-    ensures { Squared result × ((b : fans.Box) → centred result ≡ fans.try_point (rings coords.now loops.now) (node_ring points.now nodes.now) b p (centred best)) }
+fn try_point<R: Ring>(outline: &Outline, front: &R, p: Point, best: Centre) -> Centre
+    ensures { (b : fans.Box) → centred result ≡ fans.try_point (rings outline.now.coords.now outline.now.loop_lengths.now) (R.ring front.now) b p (centred best) }
 {
-    if best.near < nodes.len() && side_square(p, points, nodes, best.near) <= best.square {
+    if best.near < front.size() && side_square(p, front, best.near) <= best.square {
         return best;
     }
-    if !geometry::in_front(p, points, nodes) {
+    if !geometry::in_polygon(p, front) {
         return best;
     }
-    match look_at(p, points, nodes, best.square) {
-        Err(near) => Centre { near, ..best },
-        Ok(square) => {
-            let clearance = float::root(square);
-            if best.clearance < clearance && geometry::contains(coords, loops, p) {
-                Centre {
-                    point: p,
-                    clearance,
-                    square,
-                    ..best
-                }
-            } else {
-                best
-            }
+    let square = match look_at(p, front, best.square) {
+        Err(near) => {
+            return Centre {
+                point: best.point,
+                clearance: best.clearance,
+                square: best.square,
+                near,
+            };
         }
+        Ok(square) => square,
+    };
+    let clearance = float::root(square);
+    if best.clearance < clearance && outline.contains(p) {
+        return Centre {
+            point: p,
+            clearance,
+            square,
+            near: best.near,
+        };
     }
+    best
 }
 
 // The best of `best` and the grid's column `i`, from low to high.
-fn search_column(
-    coords: &[f64],
-    loops: &[u16],
-    points: &[f64],
-    nodes: &[u16],
-    b: Box,
-    i: u32,
-    best: Centre,
-) -> Centre
-    requires loops_in_bounds { (sum_of loops.now * 2 ≤ length coords.now) × Squared best }
-    requires by_index { (i : ℕ) → i < length nodes.now → get_or nodes.now i 0 * 2 + 1 < length points.now }
-    ensures { Squared result × (centred result ≡ fans.search_column (rings coords.now loops.now) (node_ring points.now nodes.now) (boxed b) i 13 (centred best)) }
+fn search_column<R: Ring>(outline: &Outline, front: &R, b: Box, i: u32, best: Centre) -> Centre
+    ensures { centred result ≡ fans.search_column (rings outline.now.coords.now outline.now.loop_lengths.now) (R.ring front.now) (boxed b) i 13 (centred best) }
 {
     let mut found = best;
     for j in 0..13 {
         let p = grid_point(b, i, j);
-        found = try_point(coords, loops, points, nodes, p, found);
+        found = try_point(outline, front, p, found);
     }
     found
 }
@@ -104,7 +88,7 @@ fn search_column(
 // Where the search starts: the middle of the box, with no clearance.
 #[tactic(auto, using(placing::proofs::Literals::half_is, crate::proofs::Literals::minus_inf_is))]
 fn middle_of(b: Box) -> Centre
-    ensures { Squared result × (centred result ≡ fans.start (boxed b)) }
+    ensures { centred result ≡ fans.start (boxed b) }
 {
     let point = Point {
         x: 0.5 * (b.left + b.right),
@@ -119,24 +103,20 @@ fn middle_of(b: Box) -> Centre
 }
 
 // The best point of the grid, column by column from the left.
-fn search_grid(coords: &[f64], loops: &[u16], points: &[f64], nodes: &[u16], b: Box) -> Centre
-    requires loops_in_bounds { sum_of loops.now * 2 ≤ length coords.now }
-    requires by_index { (i : ℕ) → i < length nodes.now → get_or nodes.now i 0 * 2 + 1 < length points.now }
-    ensures { centred result ≡ fans.search_grid (rings coords.now loops.now) (node_ring points.now nodes.now) (boxed b) 13 (fans.start (boxed b)) }
+fn search_grid<R: Ring>(outline: &Outline, front: &R, b: Box) -> Centre
+    ensures { centred result ≡ fans.search_grid (rings outline.now.coords.now outline.now.loop_lengths.now) (R.ring front.now) (boxed b) 13 (fans.start (boxed b)) }
 {
     let mut found = middle_of(b);
     for i in 0..13 {
-        found = search_column(coords, loops, points, nodes, b, i, found);
+        found = search_column(outline, front, b, i, found);
     }
     found
 }
 
 // The fan's centre and its clearance.
 #[tactic(auto, unfolding(rules::specs::Fan::centre))]
-pub fn centre_of(coords: &[f64], loops: &[u16], points: &[f64], nodes: &[u16]) -> Centre
-    requires loops_in_bounds { sum_of loops.now * 2 ≤ length coords.now }
-    requires by_index { (i : ℕ) → i < length nodes.now → get_or nodes.now i 0 * 2 + 1 < length points.now }
-    ensures { centred result ≡ fans.centre (rings coords.now loops.now) (node_ring points.now nodes.now) }
+pub fn centre_of<R: Ring>(outline: &Outline, front: &R) -> Centre
+    ensures { centred result ≡ fans.centre (rings outline.now.coords.now outline.now.loop_lengths.now) (R.ring front.now) }
 {
-    search_grid(coords, loops, points, nodes, box_of(points, nodes))
+    search_grid(outline, front, box_of(front))
 }

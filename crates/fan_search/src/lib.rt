@@ -2,6 +2,8 @@
 // written here.
 #![tactic(auto)]
 
+ghost use Rattle.fan_search.specs.Squares.{Squared};
+
 mod boxes;
 mod grid;
 mod quads;
@@ -9,7 +11,8 @@ mod squares;
 mod trial;
 
 use geometry::Point;
-pub use quads::is_turned;
+pub use grid::box_of;
+pub use quads::Fan;
 pub use trial::try_fan;
 
 // The box of a front's points.
@@ -29,6 +32,7 @@ pub struct Centre {
     pub clearance: f64,
     pub square: f64,
     pub near: usize,
+    ghost squared: { Squared clearance square },
 }
 
 // The points of a quad's three front nodes, in turn.

@@ -1,6 +1,6 @@
 // A fan tried: the numbers 24, 26, 21 and 27, in that order. Nothing lent is written here.
-ghost use Rattle.std.specs.Prelude.{◌≡◌, ℕ, ◌%◌, ◌*◌, ◌+◌, ◌<◌, ◌≤◌, get_or, length};
-ghost use Rattle.geometry.specs.Domain.{rings, sum_of};
+ghost use Rattle.std.specs.Prelude.{◌≡◌, ◌%◌, ◌≤◌, length};
+ghost use Rattle.geometry.specs.Domain.{rings};
 ghost use Rattle.geometry.specs.Rings.{node_ring};
 ghost use Rattle.state.specs.Limits.{quad_limit};
 ghost use Rattle.state.specs.Outcome.{outcome};
@@ -10,25 +10,23 @@ ghost use Rattle.fan_search.specs.Numbers.{fan_number};
 
 use crate::Centre;
 use crate::grid::centre_of;
-use crate::quads::all_pass;
-use geometry::Point;
+use crate::quads::Fan;
+use geometry::{NodePoints, Outline, Point};
 use state::Refusal;
 
-// The centre of the fan of the front of these nodes, where `quads` quads are laid, if the fan stands.
+// The centre of the fan of a front, where `quads` quads are laid, if the fan stands.
 pub fn try_fan(
-    coords: &[f64],
-    loops: &[u16],
-    points: &[f64],
-    nodes: &[u16],
+    outline: &Outline,
+    front: &NodePoints,
     quads: usize,
     limit: f64,
 ) -> Result<Point, Refusal>
-    requires loops_in_bounds { (sum_of loops.now * 2 ≤ length coords.now) × (length points.now % 2 ≡ 0) × (quads ≤ quad_limit) }
-    requires by_index { (i : ℕ) → i < length nodes.now → get_or nodes.now i 0 * 2 + 1 < length points.now }
-    ensures { answered result ≡ outcome (fan_number limit (rings coords.now loops.now) points.now nodes.now quads)
-        (centre (rings coords.now loops.now) (node_ring points.now nodes.now)).point }
+    requires { (length front.now.pts.now % 2 ≡ 0) × (quads ≤ quad_limit) }
+    ensures { let loops = rings outline.now.coords.now outline.now.loop_lengths.now in
+        answered result ≡ outcome (fan_number limit loops front.now.pts.now front.now.nodes.now quads)
+        (centre loops (node_ring front.now.pts.now front.now.nodes.now)).point }
 {
-    let n = nodes.len();
+    let n = front.nodes.len();
     if n < 4 || n % 2 == 1 {
         return Err(Refusal::FanFront);
     }
@@ -36,14 +34,18 @@ pub fn try_fan(
         point,
         clearance,
         ..
-    } = centre_of(coords, loops, points, nodes);
+    } = centre_of(outline, front);
     if !float::is_finite(clearance) || clearance <= 0.0 {
         return Err(Refusal::Centre);
     }
-    if 4096 < points.len() / 2 + 1 || 4096 < quads + n / 2 {
+    if 4096 < front.pts.len() / 2 + 1 || 4096 < quads + n / 2 {
         return Err(Refusal::Full);
     }
-    if !all_pass(points, nodes, point, limit) {
+    let fan = Fan {
+        front: *front,
+        centre: point,
+    };
+    if !fan.all_pass(limit) {
         return Err(Refusal::Corner);
     }
     Ok(point)

@@ -1,4 +1,5 @@
-// Functions on f64 that the paving uses: what Rust's methods of f64 give, and the square root. Each takes every f64.
+// Functions on f64 that the paving uses: what Rust's methods of f64 give, under definitions of this repository, and the square root and
+// rounding half away from zero, which std's f64 has no methods for. Each takes every f64.
 #![tactic(auto)]
 
 ghost use Rattle.std.specs.Prelude.{◌≡◌, ◌+◌, ◌*◌, ◌/◌, ◌%◌, ◌^◌, ◌<◌, ◌≤◌, true};
@@ -54,6 +55,7 @@ pub fn round_away(x: f64) -> usize
     if x > 0.0 {
         if x < 9223372036854775808.0 {
             let halves = std::num::truncating_f64_to_u64(x + x);
+            // as, here and below: Rust has no From between u64 and usize
             return (halves / 2 + halves % 2) as usize;
         }
         if x < 18446744073709551616.0 {

@@ -28,6 +28,7 @@ fn is_nearest(a: u64, g: u64) -> bool
 fn guess(part: u64, y: f64) -> f64
     requires { part < 64 }
 {
+    // as: Rust has no From between u64 and usize
     let (root, reciprocal) = STARTS[part as usize];
     // y is the square of the root by 1 + e
     let e = (y - root * root) * reciprocal;

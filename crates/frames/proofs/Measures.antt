@@ -1,7 +1,6 @@
 -- The literals and places of the code, as the definitions have them.
 use mathlib.Core.Path.{◌≡◌, refl}
-use mathlib.Core.Bool.{true}
-use lib.Ieee.{Float, inf, binary64, of_bits, round}
+use lib.Ieee.{Float, binary64, of_bits, round}
 use Rattle.float.specs.Helpers.{decimal}
 use Rattle.geometry.specs.F64.{◌⊕◌, ◌⊖◌, ◌⊗◌, ◌⊘◌}
 use Rattle.fan_search.specs.declared.Box.{Box}
@@ -18,11 +17,6 @@ seventy_two_is = refl
 pub twentieth_is : of_bits binary64 0x3FA9_9999_9999_999A ≡ decimal 5 2
 unfolding round of_bits
 twentieth_is = refl
-
--- f64::NEG_INFINITY
-pub minus_infinity_is : of_bits binary64 0xFFF0_0000_0000_0000 ≡ inf true
-unfolding of_bits
-minus_infinity_is = refl
 
 -- ---- places
 

@@ -6,18 +6,30 @@ ghost use Rattle.fan_search.specs.Values.{boxed};
 ghost use Rattle.frames.specs.Views.{margin};
 
 use fan_search::Box;
+use geometry::FirstPoints;
 
-pub fn box_of(coords: &[f64]) -> Box
-    ensures { boxed result ≡ fans.box (ring_of coords.now (length coords.now / 2)) (length coords.now / 2) }
-{
-    let mut b = Box::empty();
-    for i in 0..coords.len() / 2 {
-        b = b.with(geometry::point_at(coords, i));
-    }
-    b
+// What a picture shows: the outline's box, and the margin around it.
+#[derive(Clone, Copy)]
+pub struct Frame {
+    pub bounds: Box,
+    pub margin: f64,
 }
 
-pub fn margin_of(b: Box, h: f64) -> f64
+impl Frame {
+    // The frame of an outline with sides of `h`.
+    pub fn around(coords: &[f64], h: f64) -> Frame
+        ensures bounds { boxed result.bounds ≡ fans.box (ring_of coords.now (length coords.now / 2)) (length coords.now / 2) }
+        ensures margin { result.margin ≡ margin (boxed result.bounds) h }
+    {
+        let bounds = fan_search::box_of(&FirstPoints::all(coords));
+        Frame {
+            bounds,
+            margin: margin_of(bounds, h),
+        }
+    }
+}
+
+fn margin_of(b: Box, h: f64) -> f64
     ensures { result ≡ margin (boxed b) h }
 {
     0.05 * float::greater(b.right - b.left, b.high - b.low) + h

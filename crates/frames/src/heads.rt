@@ -1,18 +1,24 @@
-// The head of a picture, where its words begin, and its end.
+// The head of a picture, where its words begin, and its end. Each piece of the style has a function and a
+// definition of its own: one function over the text would have to be given both.
 ghost use Rattle.text.specs.Writing.{Fits, Same, Wrote};
 ghost use Rattle.fan_search.specs.Values.{boxed};
 ghost use Rattle.frames.specs.Views as views;
 ghost use Rattle.frames.specs.Views.{plain_head, plain_caption};
 
+use crate::boxes::Frame;
 use fan_search::Box;
 use shapes::{put_across, put_up};
 use text::Writer;
 
-fn put_view(w: &mut Writer, b: Box, m: f64)
-    requires { Fits w.old (views.view_text (boxed b) m) }
-    ensures put { Wrote w.old (views.view_text (boxed b) m) w.new }
+fn put_view(w: &mut Writer, frame: Frame)
+    requires { Fits w.old (views.view_text (boxed frame.bounds) frame.margin) }
+    ensures put { Wrote w.old (views.view_text (boxed frame.bounds) frame.margin) w.new }
     ensures same { Same w.old w.new }
 {
+    let Frame {
+        bounds: b,
+        margin: m,
+    } = frame;
     put_across(w, b.left - m);
     w.byte(b' ');
     put_up(w, b.high + m);
@@ -22,11 +28,15 @@ fn put_view(w: &mut Writer, b: Box, m: f64)
     put_across(w, b.high - b.low + m + m + m);
 }
 
-fn put_size(w: &mut Writer, b: Box, m: f64)
-    requires { Fits w.old (views.size_text (boxed b) m) }
-    ensures put { Wrote w.old (views.size_text (boxed b) m) w.new }
+fn put_size(w: &mut Writer, frame: Frame)
+    requires { Fits w.old (views.size_text (boxed frame.bounds) frame.margin) }
+    ensures put { Wrote w.old (views.size_text (boxed frame.bounds) frame.margin) w.new }
     ensures same { Same w.old w.new }
 {
+    let Frame {
+        bounds: b,
+        margin: m,
+    } = frame;
     put_across(w, (b.right - b.left + m + m) / 72.0);
 }
 
@@ -85,15 +95,15 @@ fn put_style(w: &mut Writer)
     put_strokes(w);
 }
 
-pub fn put_head(w: &mut Writer, b: Box, m: f64)
-    requires { Fits w.old (views.head_text (views.view_text (boxed b) m) (views.size_text (boxed b) m)) }
-    ensures put { Wrote w.old (views.head_text (views.view_text (boxed b) m) (views.size_text (boxed b) m)) w.new }
+pub fn put_head(w: &mut Writer, frame: Frame)
+    requires { Fits w.old (views.head_text (views.view_text (boxed frame.bounds) frame.margin) (views.size_text (boxed frame.bounds) frame.margin)) }
+    ensures put { Wrote w.old (views.head_text (views.view_text (boxed frame.bounds) frame.margin) (views.size_text (boxed frame.bounds) frame.margin)) w.new }
     ensures same { Same w.old w.new }
 {
     put_opening(w);
-    put_view(w, b, m);
+    put_view(w, frame);
     w.bytes(b"\" font-size=\"");
-    put_size(w, b, m);
+    put_size(w, frame);
     put_style(w);
 }
 
@@ -105,23 +115,27 @@ fn put_middle(w: &mut Writer, b: Box)
     put_across(w, b.left + 0.5 * (b.right - b.left));
 }
 
-fn put_under(w: &mut Writer, b: Box, m: f64)
-    requires { Fits w.old (views.under_text (boxed b) m) }
-    ensures put { Wrote w.old (views.under_text (boxed b) m) w.new }
+fn put_under(w: &mut Writer, frame: Frame)
+    requires { Fits w.old (views.under_text (boxed frame.bounds) frame.margin) }
+    ensures put { Wrote w.old (views.under_text (boxed frame.bounds) frame.margin) w.new }
     ensures same { Same w.old w.new }
 {
+    let Frame {
+        bounds: b,
+        margin: m,
+    } = frame;
     put_up(w, b.low - m - 0.5 * m);
 }
 
-pub fn put_caption(w: &mut Writer, b: Box, m: f64)
-    requires { Fits w.old (views.caption_text (views.middle_text (boxed b)) (views.under_text (boxed b) m)) }
-    ensures put { Wrote w.old (views.caption_text (views.middle_text (boxed b)) (views.under_text (boxed b) m)) w.new }
+pub fn put_caption(w: &mut Writer, frame: Frame)
+    requires { Fits w.old (views.caption_text (views.middle_text (boxed frame.bounds)) (views.under_text (boxed frame.bounds) frame.margin)) }
+    ensures put { Wrote w.old (views.caption_text (views.middle_text (boxed frame.bounds)) (views.under_text (boxed frame.bounds) frame.margin)) w.new }
     ensures same { Same w.old w.new }
 {
     w.bytes(b"<text x=\"");
-    put_middle(w, b);
+    put_middle(w, frame.bounds);
     w.bytes(b"\" y=\"");
-    put_under(w, b, m);
+    put_under(w, frame);
     w.bytes(b"\">");
 }
 

@@ -4,5 +4,5 @@
 mod boxes;
 mod heads;
 
-pub use boxes::{box_of, margin_of};
+pub use boxes::Frame;
 pub use heads::{put_caption, put_closing, put_head, put_plain_caption, put_plain_head};

@@ -1,7 +1,7 @@
 pub mod Literals
 pub mod Choices
 pub mod Steps
-pub mod Outline
+pub mod Loops
 pub mod Squares
 pub mod Flip
 pub mod Sizes

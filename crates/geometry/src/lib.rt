@@ -4,7 +4,7 @@
 #![tactic(auto)]
 
 mod corners;
-mod domain;
+mod outline;
 mod points;
 mod rings;
 mod sides;
@@ -12,9 +12,12 @@ mod sides;
 pub use corners::{
     corner_passes, corners_pass, corners_pass_with, least_corner, quad_area, sharp_turn,
 };
-pub use domain::{contains, distance_to_boundary, domain_area};
-pub use points::{next_of, node_point, point_at, prev_of, put_point, wide};
-pub use rings::{front_distance, front_length, in_front, in_polygon, sharp_at, signed_area};
+pub use outline::Outline;
+pub use points::{next_of, node_point, point_at, prev_of, put_point};
+pub use rings::{
+    FirstPoints, NodePoints, Ring, front_distance, front_length, in_polygon, least_square,
+    sharp_at, signed_area,
+};
 pub use sides::{ray_crosses, segment_distance, segment_square, segments_cross, side_length};
 
 #[derive(Clone, Copy)]

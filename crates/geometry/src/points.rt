@@ -24,19 +24,12 @@ pub fn put_point(pts: &mut [f64], i: usize, x: f64, y: f64)
     pts[i * 2 + 1] = y;
 }
 
-// A number of a u16 slice, as a usize.
-pub fn wide(node: u16) -> usize
-    ensures { result ≡ node }
-{
-    usize::from(node)
-}
-
 // The point that the `i`th of some node numbers names.
 pub fn node_point(pts: &[f64], nodes: &[u16], i: usize) -> Point
     requires { (i < length nodes.now) × (get_or nodes.now i 0 * 2 + 1 < length pts.now) }
     ensures { result ≡ point_at pts.now (get_or nodes.now i 0) }
 {
-    let node = wide(nodes[i]);
+    let node = usize::from(nodes[i]);
     point_at(pts, node)
 }
 

@@ -1,5 +1,5 @@
-// Measures of closed rings: of the first `n` points of a list, and of the points that a front's node numbers name.
-ghost use Rattle.std.specs.Prelude.{◌≡◌, ℕ, ◌*◌, ◌+◌, ◌<◌, ◌≤◌, get_or, length, false};
+// Closed rings and their measures: the first `n` points of a list, and the points that a front's node numbers name.
+ghost use Rattle.std.specs.Prelude.{◌≡◌, ℕ, ◌*◌, ◌+◌, ◌<◌, ◌≤◌, ◌/◌, drop, false, get_or, length, take};
 ghost use Rattle.std.specs.Float.{inf};
 ghost use Rattle.geometry.specs.Rings as specs;
 ghost use Rattle.geometry.specs.Rings.{node_ring, ring_of};
@@ -45,6 +45,27 @@ impl<'a> Ring for FirstPoints<'a> {
     }
 }
 
+impl<'a> FirstPoints<'a> {
+    // All points of a list.
+    pub fn all(pts: &'a [f64]) -> FirstPoints<'a>
+        ensures points { result.pts.now ≡ pts.now }
+        ensures count { result.n ≡ length pts.now / 2 }
+    {
+        FirstPoints {
+            pts,
+            n: pts.len() / 2,
+        }
+    }
+
+    // The coordinates behind the ring.
+    pub fn rest(&self) -> &'a [f64]
+        ensures { result.now ≡ drop (self.now.n * 2) self.now.pts.now }
+    {
+        let at = self.n * 2;
+        &self.pts[at..]
+    }
+}
+
 // The ring of the points that a front's node numbers name.
 #[derive(Clone, Copy)]
 pub struct NodePoints<'a> {
@@ -65,9 +86,23 @@ impl<'a> Ring for NodePoints<'a> {
     }
 }
 
+impl<'a> NodePoints<'a> {
+    // The points of `len` of the nodes, from place `start` on.
+    pub fn part(&self, start: usize, len: usize) -> NodePoints<'a>
+        requires { start + len ≤ length self.now.nodes.now }
+        ensures points { result.pts.now ≡ self.now.pts.now }
+        ensures nodes { result.nodes.now ≡ take len (drop start self.now.nodes.now) }
+    {
+        NodePoints {
+            pts: self.pts,
+            nodes: &self.nodes[start..start + len],
+        }
+    }
+}
+
 // Whether `p` is within a ring: the closing side first, then side by side. The test of an end is kept for the next side, and a
 // side whose ends are both above or both below is passed by.
-fn within<R: Ring>(p: Point, ring: &R) -> bool
+pub fn in_polygon<R: Ring>(p: Point, ring: &R) -> bool
     ensures { result ≡ in_polygon p (R.ring ring.now) }
 {
     let n = ring.size();
@@ -105,23 +140,23 @@ pub fn least_square<R: Ring>(short: f64, p: Point, best: f64, ring: &R) -> f64
     least
 }
 
-// The signed area of the ring of the first `n` points: three sides a turn, then those left, and the closing side.
-pub fn signed_area(pts: &[f64], n: usize) -> f64
-    requires { n * 2 ≤ length pts.now }
-    ensures { result ≡ signed_area (ring_of pts.now n) }
+// The signed area of a ring: three sides a turn, then those left, and the closing side.
+pub fn signed_area<R: Ring>(ring: &R) -> f64
+    ensures { result ≡ signed_area (R.ring ring.now) }
 {
+    let n = ring.size();
     if n == 0 {
         return 0.0;
     }
-    let first = point_at(pts, 0);
+    let first = ring.at(0);
     let mut sum = 0.0;
     let mut a = first;
     let mut i = 1usize;
     // at 4 points one side a turn takes a fifth longer, counted turns a quarter, and no way out between the loops a tenth
-    while i + 2 < n {
-        let b = point_at(pts, i);
-        let c = point_at(pts, i + 1);
-        let d = point_at(pts, i + 2);
+    while 2 < n - i {
+        let b = ring.at(i);
+        let c = ring.at(i + 1);
+        let d = ring.at(i + 2);
         sum = sum + area_term(a, b) + area_term(b, c) + area_term(c, d);
         a = d;
         i += 3;
@@ -130,31 +165,24 @@ pub fn signed_area(pts: &[f64], n: usize) -> f64
         return (sum + area_term(a, first)) / 2.0;
     }
     for j in i..n {
-        let b = point_at(pts, j);
+        let b = ring.at(j);
         sum = sum + area_term(a, b);
         a = b;
     }
     (sum + area_term(a, first)) / 2.0
 }
 
-// Whether `p` is within the ring of the first `n` points.
-pub fn in_polygon(p: Point, pts: &[f64], n: usize) -> bool
-    requires { n * 2 ≤ length pts.now }
-    ensures { result ≡ in_polygon p (ring_of pts.now n) }
+// Whether the corner at place `i` of a ring is sharp.
+pub fn sharp_at<R: Ring>(ring: &R, i: usize) -> bool
+    requires { i < (R.ring ring.now).size }
+    ensures { result ≡ sharp_at (R.ring ring.now) i }
 {
-    within(p, &FirstPoints { pts, n })
-}
-
-// Whether the corner at place `i` of the ring of the first `n` points is sharp.
-pub fn sharp_at(pts: &[f64], n: usize, i: usize) -> bool
-    requires { (n * 2 ≤ length pts.now) × (i < n) }
-    ensures { result ≡ sharp_at (ring_of pts.now n) i }
-{
+    let n = ring.size();
     let h = prev_of(n, i);
     let j = next_of(n, i);
-    let a = point_at(pts, h);
-    let b = point_at(pts, i);
-    let c = point_at(pts, j);
+    let a = ring.at(h);
+    let b = ring.at(i);
+    let c = ring.at(j);
     let inx = b.x - a.x;
     let iny = b.y - a.y;
     let outx = c.x - b.x;
@@ -162,33 +190,23 @@ pub fn sharp_at(pts: &[f64], n: usize, i: usize) -> bool
     sharp_turn(inx * outy - iny * outx, inx * outx + iny * outy)
 }
 
-// The length of a front.
-pub fn front_length(pts: &[f64], nodes: &[u16]) -> f64
-    requires { (i : ℕ) → i < length nodes.now → get_or nodes.now i 0 * 2 + 1 < length pts.now }
-    ensures { result ≡ front_length (node_ring pts.now nodes.now) }
+// The length of a ring's sides.
+pub fn front_length<R: Ring>(ring: &R) -> f64
+    ensures { result ≡ front_length (R.ring ring.now) }
 {
-    let n = nodes.len();
+    let n = ring.size();
     let mut sum = 0.0;
     for i in 0..n {
-        let a = node_point(pts, nodes, i);
-        let b = node_point(pts, nodes, next_of(n, i));
+        let a = ring.at(i);
+        let b = ring.at(next_of(n, i));
         sum = sum + side_length(a, b);
     }
     sum
 }
 
-// Whether `p` is within a front.
-pub fn in_front(p: Point, pts: &[f64], nodes: &[u16]) -> bool
-    requires { (i : ℕ) → i < length nodes.now → get_or nodes.now i 0 * 2 + 1 < length pts.now }
-    ensures { result ≡ in_polygon p (node_ring pts.now nodes.now) }
+// The distance from `p` to a ring: the root of the least square.
+pub fn front_distance<R: Ring>(p: Point, ring: &R) -> f64
+    ensures { result ≡ ring_distance (inf false) p (R.ring ring.now) (R.ring ring.now).size }
 {
-    within(p, &NodePoints { pts, nodes })
-}
-
-// The distance from `p` to a front: the root of the least square.
-pub fn front_distance(p: Point, pts: &[f64], nodes: &[u16]) -> f64
-    requires { (i : ℕ) → i < length nodes.now → get_or nodes.now i 0 * 2 + 1 < length pts.now }
-    ensures { result ≡ ring_distance (inf false) p (node_ring pts.now nodes.now) (length nodes.now) }
-{
-    float::root(least_square(1e-18, p, 1.0 / 0.0, &NodePoints { pts, nodes }))
+    float::root(least_square(1e-18, p, 1.0 / 0.0, ring))
 }

@@ -12,17 +12,8 @@ use Rattle.state.specs.State.{Held, Lengths, lengths}
 use Rattle.state.specs.Outcome.{first_true}
 use Rattle.state.specs.Call.{lengths_of}
 use Rattle.state.proofs.Basics.{or_false}
-use Rattle.input.specs.Job.{Job, loop_limit, wrong_lengths, wrong_shape, input_number, pair_limit}
-
-pub record Shaped (j : Job) (l : Lengths) : Type 0 where
-  pub points : l.points ≡ points_length
-  pub quads : l.quads ≡ quads_length
-  pub nodes : l.front_nodes ≡ front_node_limit
-  pub fronts : l.front_lengths ≡ front_limit
-  pub some : 0 < length j.loops
-  pub few : length j.loops ≤ loop_limit
-  pub even : sum_of j.loops * 2 ≡ length j.coords
-  pub small : length j.coords ≤ pair_limit * 2
+use Rattle.input.specs.Job.{Job, wrong_lengths, wrong_shape, input_number, pair_limit}
+use Rattle.input.specs.Shaped.{Shaped}
 
 is : (a b : ℕ) → not (eqb a b) ≡ false → a ≡ b
 is a b h = eqb-true a b (not-false _ h)
@@ -69,11 +60,19 @@ pub accepted : (j : Job) (l : Lengths) → input_number j l ≡ 0 → Shaped j l
 unfolding input_number first_true
 accepted j l h = shaped j l (one_first _ _ h)
 
+-- the lent buffers are as long as they have to be
+pub lengths_lent : {j : Job} {l : Lengths} → Shaped j l → l ≡ lengths_of points_length quads_length front_node_limit front_limit
+lengths_lent s = rw (s.points, s.quads, s.nodes, s.fronts)
+
+-- the same for a job that is equal
+pub shape_of : {j k : Job} (l : Lengths) → k ≡ j → 0 ≡ input_number j l → Shaped k l
+shape_of {j = j} l e z = rw e (accepted j l (sym z))
+
 -- ---- what a call on a state learns of its buffers and its outline, from the number that the code found
 
 module _ (j : Job) (b : Held) (r : ℕ) (e : r ≡ input_number j (lengths b)) (z : r ≡ 0) where
   pub right_lengths_lem : lengths b ≡ lengths_of points_length quads_length front_node_limit front_limit
-  right_lengths_lem = let s = accepted j (lengths b) (sym e ∙ z) in rw (s.points, s.quads, s.nodes, s.fronts)
+  right_lengths_lem = lengths_lent (accepted j (lengths b) (sym e ∙ z))
 
   pub outline_read : sum_of j.loops * 2 ≤ length j.coords
   outline_read = let h = (accepted j (lengths b) (sym e ∙ z)).even in omega arith

@@ -8,7 +8,8 @@ use Rattle.state.specs.State.{Lengths}
 use Rattle.state.specs.Outcome.{first_true, test}
 use Rattle.state.specs.Coordinates.{outside, wrong_coordinate}
 use Rattle.input.specs.declared.Options.{Options}
-use Rattle.input.specs.declared.Job as declared
+use Rattle.input.specs.declared.Job as written
+use Rattle.input.specs.declared.Accepted as passed
 
 -- the coordinates (x, then y, one after the other), the loop lengths (outer first, then holes), the size h and the options
 pub record Job : Type 0 where
@@ -21,8 +22,12 @@ abbrev pub job : List Float → List ℕ → Float → Options → Job
 job coords loops h o = record { coords = coords; loops = loops; h = h; options = o }
 
 -- a job of the code, by what its slices hold
-abbrev pub job_of : declared.Job → Job
+abbrev pub job_of : written.Job → Job
 job_of j = job j.coords.now j.loop_lengths.now j.h j.options
+
+-- and one that passed its test
+abbrev pub accepted_of : passed.Accepted → Job
+accepted_of a = job a.outline.coords.now a.outline.loop_lengths.now a.h a.options
 
 -- 1 to 16 loops, as many as there can be fronts, and at most 2,048 pairs, as many as there can be front nodes
 abbrev pub loop_limit : ℕ

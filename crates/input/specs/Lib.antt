@@ -1,3 +1,4 @@
 pub mod Job
 pub mod Defaults
 pub mod Limit
+pub mod Shaped

@@ -1,56 +1,48 @@
 // The numbers 1 to 6, which a job's input gives.
-ghost use Rattle.std.specs.Prelude.{◌≡◌, Float};
-ghost use Rattle.state.specs.Call.{lengths_of};
-ghost use Rattle.input.specs.declared.Options as declared;
+ghost use Rattle.std.specs.Prelude.{◌≡◌, IfOk};
 ghost use Rattle.state.specs.Lent.{lengths_in};
 ghost use Rattle.state.specs.Refusals.{refusal_of};
 ghost use Rattle.input.specs.Job as inputs;
 
-use crate::{Job, Options};
+use crate::{Accepted, Job, Options};
+use geometry::Outline;
 use state::{Lent, Refusal, outside, sum_of, wrong_coordinate};
 
-fn wrong_lengths(points: usize, quads: usize, front_nodes: usize, front_lengths: usize) -> bool
-    ensures { result ≡ inputs.wrong_lengths (lengths_of points quads front_nodes front_lengths) }
+fn wrong_lengths(lent: &Lent) -> bool
+    ensures { result ≡ inputs.wrong_lengths (lengths_in lent.now) }
 {
-    if points != 8192 {
+    if lent.points.len() != 8192 {
         return true;
     }
-    if quads != 16384 {
+    if lent.quads.len() != 16384 {
         return true;
     }
-    if front_nodes != 2048 {
+    if lent.front_nodes.len() != 2048 {
         return true;
     }
-    front_lengths != 16
+    lent.front_lengths.len() != 16
 }
 
-// Number 1, for every size and all options.
-fn wrong_shape(
-    coords: &[f64],
-    loop_lengths: &[u16],
-    points: usize,
-    quads: usize,
-    front_nodes: usize,
-    front_lengths: usize,
-) -> bool
-    ensures { (h : Float) (o : declared.Options) → result ≡ inputs.wrong_shape (inputs.job coords.now loop_lengths.now h o) (lengths_of points quads front_nodes front_lengths) }
+// Number 1.
+fn wrong_shape(job: &Job, lent: &Lent) -> bool
+    ensures { result ≡ inputs.wrong_shape (inputs.job_of job.now) (lengths_in lent.now) }
 {
-    if wrong_lengths(points, quads, front_nodes, front_lengths) {
+    if wrong_lengths(lent) {
         return true;
     }
-    let loops = loop_lengths.len();
+    let loops = job.loop_lengths.len();
     if loops == 0 {
         return true;
     }
     if 16 < loops {
         return true;
     }
-    let numbers = coords.len();
+    let numbers = job.coords.len();
     if numbers % 2 == 1 {
         return true;
     }
     let pairs = numbers / 2;
-    if sum_of(loop_lengths) != pairs {
+    if sum_of(job.loop_lengths) != pairs {
         return true;
     }
     2048 < pairs
@@ -89,61 +81,44 @@ fn wrong_options(h: f64, options: Options) -> bool
     outside(0.02, 0.9, options.corner_limit)
 }
 
-// The test of a job and of the lengths of the lent buffers.
-pub fn check_input(
-    job: &Job,
-    points: usize,
-    quads: usize,
-    front_nodes: usize,
-    front_lengths: usize,
-) -> Result<(), Refusal>
-    ensures { refusal_of result ≡ inputs.input_number (inputs.job_of job.now) (lengths_of points quads front_nodes front_lengths) }
-{
-    let Job {
-        coords,
-        loop_lengths,
-        h,
-        options,
-    } = *job;
-    if wrong_shape(
-        coords,
-        loop_lengths,
-        points,
-        quads,
-        front_nodes,
-        front_lengths,
-    ) {
-        return Err(Refusal::Shape);
-    }
-    if wrong_size(h) {
-        return Err(Refusal::Size);
-    }
-    if wrong_options(h, options) {
-        return Err(Refusal::Options);
-    }
-    if loop_lengths[0] < 3 {
-        return Err(Refusal::OuterLoop);
-    }
-    if wrong_coordinate(1000000.0, coords) {
-        return Err(Refusal::Coordinate);
-    }
-    if geometry::domain_area(coords, loop_lengths) <= 0.0 {
-        return Err(Refusal::Area);
-    }
-    Ok(())
-}
-
-impl Job<'_> {
-    // The same, of lent buffers.
-    pub fn check(&self, lent: &Lent) -> Result<(), Refusal>
-        ensures { refusal_of result ≡ inputs.input_number (inputs.job_of self.now) (lengths_in lent.now) }
+impl<'a> Job<'a> {
+    // The test of a job and of the lengths of the lent buffers: the job, as the calls go on with it.
+    pub fn check(&self, lent: &Lent) -> Result<Accepted<'a>, Refusal>
+        ensures value { refusal_of result ≡ inputs.input_number (inputs.job_of self.now) (lengths_in lent.now) }
+        ensures same { IfOk result (λ a. inputs.accepted_of a ≡ inputs.job_of self.now) }
     {
-        check_input(
-            self,
-            lent.points.len(),
-            lent.quads.len(),
-            lent.front_nodes.len(),
-            lent.front_lengths.len(),
-        )
+        let Job {
+            coords,
+            loop_lengths,
+            h,
+            options,
+        } = *self;
+        if wrong_shape(self, lent) {
+            return Err(Refusal::Shape);
+        }
+        if wrong_size(h) {
+            return Err(Refusal::Size);
+        }
+        if wrong_options(h, options) {
+            return Err(Refusal::Options);
+        }
+        if loop_lengths[0] < 3 {
+            return Err(Refusal::OuterLoop);
+        }
+        if wrong_coordinate(1000000.0, coords) {
+            return Err(Refusal::Coordinate);
+        }
+        let outline = Outline {
+            coords,
+            loop_lengths,
+        };
+        if outline.area() <= 0.0 {
+            return Err(Refusal::Area);
+        }
+        Ok(Accepted {
+            outline,
+            h,
+            options,
+        })
     }
 }

@@ -7,6 +7,8 @@ ghost use Rattle.input.specs.Limit.{default_limit};
 
 mod input;
 
+use geometry::Outline;
+
 // The Rust's `Options`, by value: margins, fractions and gaps in sizes h, the limit of passes, and `seam`; and the
 // corner limit, which every corner value of a quad has to be above.
 #[derive(Clone, Copy)]
@@ -41,18 +43,36 @@ pub struct Job<'a> {
     pub options: Options,
 }
 
-// The default options, seam false: the constants of `Options` are document 01's numbers.
+// A job as the calls go on with it once it has passed its test: its outline, whose loops lie within the coordinates, the size and
+// the options.
+#[derive(Clone, Copy)]
+pub struct Accepted<'a> {
+    pub outline: Outline<'a>,
+    pub h: f64,
+    pub options: Options,
+}
+
+// seam is false; the constants of `Options` are document 01's numbers.
+impl Default for Options {
+    ghost is_default = { λ o. o ≡ options.defaults };
+
+    fn default() -> Options {
+        Options {
+            corner_margin: Options::CORNER_MARGIN,
+            min_edge_fraction: Options::MIN_EDGE,
+            front_gap: Options::FRONT_GAP,
+            max_row_rounds: Options::MAX_ROW_ROUNDS,
+            seam: false,
+            corner_limit: Options::CORNER_LIMIT,
+        }
+    }
+}
+
+// The default options.
 pub fn defaults() -> Options
     ensures { result ≡ options.defaults }
 {
-    Options {
-        corner_margin: Options::CORNER_MARGIN,
-        min_edge_fraction: Options::MIN_EDGE,
-        front_gap: Options::FRONT_GAP,
-        max_row_rounds: Options::MAX_ROW_ROUNDS,
-        seam: false,
-        corner_limit: Options::CORNER_LIMIT,
-    }
+    Options::default()
 }
 
 // The corner limit of whatever has no job of its own: the corner test as C and Rust callers make it, and the pictures.

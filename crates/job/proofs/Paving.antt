@@ -2,21 +2,20 @@
 use mathlib.Core.Path.{◌≡◌, refl, sym, ◌∙◌, ap}
 use mathlib.Core.Bool.{Bool, true, false, cond}
 use mathlib.Core.List.{List, [], ◌∷◌}
-use Prim.Native.Nat.{ℕ, ◌+◌, ◌*◌, ◌≤◌}
+use Prim.Native.Nat.{ℕ, ◌+◌, ◌≤◌}
 use native.Mathlib.Omega.{arith}
-use borrow.Author.Tests.{eqb-true}
+use borrow.Author.Tests.{eqb-true, ne_eqb}
 use lib.Dec.{eqb}
 use lib.Ieee.{Float}
-use lib.ListN.{length}
 use Rattle.geometry.specs.Rings.{Ring}
-use Rattle.geometry.specs.Domain.{rings, sum_of}
+use Rattle.geometry.specs.Domain.{rings}
 use Rattle.state.specs.declared.Counts.{Counts}
 use Rattle.state.specs.State.{State, Held, Lengths, zeros, nodes, written, reading}
 use Rattle.state.specs.Outcome.{Outcome, refused, gives}
 use Rattle.state.specs.Call.{Left, held, left, job_left, state_left}
 use Rattle.state.specs.Sound.{Sound, Clean}
 use Rattle.state.proofs.Basics.{zero_one}
-use Rattle.state.proofs.Outcomes.{gives_same, not_both}
+use Rattle.state.proofs.Outcomes.{gives_same, refused_same, not_both}
 use Rattle.state.proofs.Written.{reading-written}
 use Rattle.state.proofs.Fitting.{Fit, sound_written, clean-written}
 use Rattle.input.specs.Job.{Job, input_number}
@@ -28,6 +27,7 @@ use Rattle.sampling.specs.Sample.{empty, with_loop, sample_from, sampled, on_job
 use Rattle.rules.specs.Passes.{some_passes}
 use Rattle.rules.specs.Closing.{closings}
 use Rattle.rules.specs.Calls.{and_then, paved, job_call}
+use Rattle.passes.specs.Passed.{passed, written_of}
 use Rattle.rules.proofs.Allowed.{Stands, fronts_below_lem}
 use Rattle.rules.proofs.SampleGood.{sampled_stands}
 use Rattle.rules.proofs.SampleSizes.{limited}
@@ -36,38 +36,35 @@ use Rattle.rules.proofs.SampleSizes.{limited}
 never : {A : Type 0} {c : Counts} {n : ℕ} → ◌≡◌ {A = Outcome Counts} (gives c) (refused n) → A
 never e = let z : ◌≡◌ {A = ℕ} 0 1 = cc in absurd (zero_one z)
 
--- ---- a step that is refused leaves zeros
+-- ---- what a job leaves, from what its steps made
 
-pub cleared : (l : Lengths) (n : ℕ) (o : Outcome State) → o ≡ refused n → (z : Held) → z ≡ zeros l → left (refused n) z ≡ job_left l o
+pub job_refused : (l : Lengths) (n : ℕ) (o : Outcome State) (z : Held) → refused n ≡ written_of o → z ≡ zeros l → left (refused n) z ≡ job_left l o
 unfolding job_left
-cleared l n o e z f = rw (e, f) refl
+job_refused l n (refused m) z e f = rw (refused_same e, f)
+job_refused l n (gives s) z e f = absurd (not_both e)
+
+pub job_given : (l : Lengths) (c : Counts) (o : Outcome State) (x : Held) → gives (held x.points x.quads x.front_nodes x.front_lengths c) ≡ written_of o → left (gives c) x ≡ job_left l o
+unfolding job_left written
+job_given l c (refused m) x e = absurd (not_both (sym e))
+job_given l c (gives s) x e = ap (λ (h : Held). left (gives h.counts) h) (gives_same e)
 
 -- ---- the closings
 
-module _ (b : Held) (o : Outcome State) where
-  pub state_refused : (n : ℕ) (x : Held) → left (refused n) x ≡ state_left b o → o ≡ refused n
-  unfolding state_left
-  state_refused n x e = go o e
-    where
-      go : (o : Outcome State) → left (refused n) x ≡ state_left b o → o ≡ refused n
-      go (refused m) k = let q : ◌≡◌ {A = Outcome Counts} (refused m) (refused n) = sym (ap (λ (y : Left). y.answer) k) in cc
-      go (gives u) k = never (sym (ap (λ (y : Left). y.answer) k))
-
-  pub state_done : (l : Lengths) (c : Counts) (x : Held) → left (gives c) x ≡ state_left b o → left (gives c) x ≡ job_left l o
-  unfolding state_left job_left
-  state_done l c x e = go o e
-    where
-      go : (o : Outcome State) → left (gives c) x ≡ state_left b o → left (gives c) x ≡ job_left l o
-      go (refused m) k = never (ap (λ (y : Left). y.answer) k)
-      go (gives u) k = k
+pub closed : (b : Held) (o : Outcome State) (a : Outcome Counts) (x : Held) (c : Counts) → left a x ≡ state_left b o
+    → passed a (held x.points x.quads x.front_nodes x.front_lengths c) ≡ written_of o
+unfolding state_left
+closed b (refused m) (refused n) x c k = let q : ◌≡◌ {A = Outcome Counts} (refused n) (refused m) = ap (λ (y : Left). y.answer) k in ap refused (refused_same q)
+closed b (refused m) (gives d) x c k = never (ap (λ (y : Left). y.answer) k)
+closed b (gives s) (refused n) x c k = never (sym (ap (λ (y : Left). y.answer) k))
+closed b (gives s) (gives d) x c k = ap gives (ap (λ (y : Left). y.held) k)
 
 -- ---- the passes, and what follows
 
-pub refused_first : (o : Outcome State) (step : State → Outcome State) (n : ℕ) → o ≡ refused n → and_then o step ≡ refused n
+refused_first : (o : Outcome State) (step : State → Outcome State) (n : ℕ) → o ≡ refused n → and_then o step ≡ refused n
 unfolding and_then
 refused_first o step n e = rw e refl
 
-pub given_first : (o : Outcome State) (step : State → Outcome State) (s : State) → o ≡ gives s → step s ≡ and_then o step
+given_first : (o : Outcome State) (step : State → Outcome State) (s : State) → o ≡ gives s → step s ≡ and_then o step
 unfolding and_then
 given_first o step s e = rw e refl
 
@@ -104,22 +101,29 @@ sampled_none : (j : Job) (s : State) → sampled j ≡ gives s → s.passes ≡ 
 unfolding sampled
 sampled_none j s e = from_none j.h j.options.corner_margin 0 true empty (rings j.coords j.loops) s e
 
--- ---- sampling
+-- ---- the steps of a job
 
 module _ (j : Job) (l : Lengths) where
-  -- a job that its input or a loop refuses
-  pub sample_refused : (n : ℕ) (x : Held) → left (refused n) x ≡ sample_call j l → left (refused n) x ≡ job_call j l
-  unfolding sample_call job_call on_job job_left paved and_then
-  sample_refused n x e = go (eqb (input_number j l) 0) (sampled j) e
-    where
-      after : Outcome State → Outcome State
-      after o = and_then (and_then o (some_passes j j.options.max_row_rounds)) (closings j.options.corner_limit)
+  -- what they make
+  abbrev pub made : Outcome State
+  made = cond (eqb (input_number j l) 0) (paved j) (refused (input_number j l))
 
-      go : (t : Bool) (o : Outcome State) → left (refused n) x ≡ job_left l (cond t o (refused (input_number j l)))
-          → left (refused n) x ≡ job_left l (cond t (after o) (refused (input_number j l)))
-      go false o k = k
-      go true (refused m) k = k
-      go true (gives s) k = never (sym (ap (λ (y : Left). y.answer) k))
+  pub called : job_left l made ≡ job_call j l
+  unfolding job_call on_job
+  called = refl
+
+  -- a job that its input refuses
+  pub input_refused : (n : ℕ) → n ≡ input_number j l → (n ≡ 0 → ⊥) → refused n ≡ made
+  input_refused n e some = rw (← e, ne_eqb n 0 some)
+
+  -- a job that sampling refuses
+  pub sample_refused : (n : ℕ) (x : Held) → 0 ≡ input_number j l → left (refused n) x ≡ job_left l (sampled j) → refused n ≡ made
+  unfolding job_left paved and_then
+  sample_refused n x input e = go (sampled j) refl e
+    where
+      go : (o : Outcome State) → sampled j ≡ o → left (refused n) x ≡ job_left l o → refused n ≡ made
+      go (refused m) q k = let a : ◌≡◌ {A = Outcome Counts} (refused n) (refused m) = ap (λ (y : Left). y.answer) k in rw (← input, q, refused_same a)
+      go (gives s) q k = never (sym (ap (λ (y : Left). y.answer) k))
 
   -- a job that was sampled, and b is what is held then
   pub record Started (b : Held) : Type 0 where
@@ -157,13 +161,19 @@ module _ (j : Job) (l : Lengths) where
         let none : b.counts.passes_begun ≡ 0 = ap (λ (x : Held). x.counts.passes_begun) start.held_is ∙ sampled_none j s start.sampled_is in
         let few = (limited j l start.input).rounds in omega arith
 
-    pub start_outline : sum_of j.loops * 2 ≤ length j.coords
-    start_outline = let h = (accepted j l start.input).even in omega arith
-
     read-start : reading b ≡ s
     read-start = ap reading start.held_is ∙ reading-written s stands.good.even
 
+    abbrev rows : Outcome State
+    rows = some_passes j j.options.max_row_rounds (reading b)
+
     -- the job from here on
-    pub onward : job_call j l ≡ job_left l (and_then (some_passes j j.options.max_row_rounds (reading b)) (closings j.options.corner_limit))
-    unfolding job_call on_job paved and_then
+    onward : made ≡ and_then rows (closings j.options.corner_limit)
+    unfolding paved and_then
     onward = rw (start.input, start.sampled_is, read-start)
+
+    pub passes_refuse : (n : ℕ) → rows ≡ refused n → refused n ≡ made
+    passes_refuse n e = sym (onward ∙ refused_first rows (closings j.options.corner_limit) n e)
+
+    pub passes_give : (s : State) → rows ≡ gives s → closings j.options.corner_limit s ≡ made
+    passes_give s e = given_first rows (closings j.options.corner_limit) s e ∙ sym onward

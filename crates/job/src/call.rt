@@ -9,15 +9,18 @@ ghost use Rattle.rules.specs.Calls.{job_call};
 
 use crate::paved::pave;
 use input::Job;
-use sampling::sample;
 use state::{Counts, Lent, Refusal};
 
-// Numbers 1 to 10, and 21; zeros in every place of every buffer when it is refused, whatever the lengths. The answer of `sample` is
-// written and clean, and so is what each step leaves, so no place is cleared between the steps.
+// Numbers 1 to 10, and 21; zeros in every place of every buffer when it is refused, whatever the lengths and whichever step refused it.
 pub fn job(job: &Job, lent: &mut Lent) -> Result<Counts, Refusal>
     ensures same { Same lent.old lent.new }
     ensures left { left (answered result) (held_in lent.new no_counts) ≡ job_call (job_of job.now) (lengths_in lent.old) }
 {
-    let start = sample(job, lent)?;
-    pave(job, lent, start)
+    match pave(job, lent) {
+        Err(refusal) => {
+            lent.clear();
+            Err(refusal)
+        }
+        Ok(counts) => Ok(counts),
+    }
 }

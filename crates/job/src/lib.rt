@@ -2,7 +2,6 @@
 #![tactic(auto)]
 
 mod call;
-mod closed;
 mod paved;
 
 pub use call::job;

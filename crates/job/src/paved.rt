@@ -1,35 +1,28 @@
-// The rows of a job and its closings, on the sampled state; zeros when a step is refused.
-ghost use Rattle.std.specs.Prelude.{◌≡◌, ◌+◌, ◌*◌, ◌≤◌, length};
-ghost use Rattle.geometry.specs.Domain.{sum_of};
-ghost use Rattle.state.specs.State.{no_counts, reading};
-ghost use Rattle.state.specs.Call.{left, job_left};
+// The steps of a job, one after the other; the first that is refused ends it.
+ghost use Rattle.std.specs.Prelude.{◌≡◌, cond, eqb};
+ghost use Rattle.state.specs.State.{no_counts};
+ghost use Rattle.state.specs.Outcome.{refused};
 ghost use Rattle.state.specs.Lent.{Same, held_in, lengths_in};
 ghost use Rattle.state.specs.Refusals.{answered};
-ghost use Rattle.state.specs.Sound.{Sound, Clean};
-ghost use Rattle.input.specs.Job.{job_of};
-ghost use Rattle.rules.specs.Passes.{some_passes};
-ghost use Rattle.rules.specs.Closing.{closings};
-ghost use Rattle.rules.specs.Calls.{and_then};
+ghost use Rattle.input.specs.Job.{input_number, job_of};
+ghost use Rattle.rules.specs.Calls.{paved};
+ghost use Rattle.passes.specs.Passed.{passed, written_of};
 
-use crate::closed::close_job;
+use closing::close_small_fronts;
 use input::Job;
 use passes::some_passes;
+use sampling::sample_accepted;
 use state::{Counts, Lent, Refusal};
 
-pub fn pave(job: &Job, lent: &mut Lent, counts: Counts) -> Result<Counts, Refusal>
-    requires sound { Sound (held_in lent.old counts) }
-    requires clean { Clean (held_in lent.old counts) }
-    requires max_row_rounds_bound { (counts.passes_begun + job.now.options.max_row_rounds ≤ 18446744073709551615) × (sum_of job.now.loop_lengths.now * 2 ≤ length job.now.coords.now) }
+// What `sample_accepted` leaves is written and clean, and so is what each step leaves, so no place is cleared between the steps. A
+// refusal says nothing of the buffers: they may hold a part of the job, and `job` clears them.
+pub fn pave(job: &Job, lent: &mut Lent) -> Result<Counts, Refusal>
     ensures same { Same lent.old lent.new }
-    ensures left { left (answered result) (held_in lent.new no_counts)
-        ≡ job_left (lengths_in lent.old)
-        (and_then (some_passes (job_of job.now) job.now.options.max_row_rounds (reading (held_in lent.old counts))) (closings job.now.options.corner_limit)) }
+    ensures passed { let input = input_number (job_of job.now) (lengths_in lent.old) in
+        passed (answered result) (held_in lent.new no_counts) ≡ written_of (cond (eqb input 0) (paved (job_of job.now)) (refused input)) }
 {
-    match some_passes(job, job.options.max_row_rounds, lent, counts) {
-        Err(refusal) => {
-            lent.clear();
-            Err(refusal)
-        }
-        Ok(laid) => close_job(lent, laid, job.options.corner_limit),
-    }
+    let accepted = job.check(lent)?;
+    let start = sample_accepted(&accepted, lent)?;
+    let laid = some_passes(&accepted, accepted.options.max_row_rounds, lent, start)?;
+    close_small_fronts(lent, laid, accepted.options.corner_limit, true)
 }

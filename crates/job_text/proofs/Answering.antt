@@ -2,8 +2,8 @@
 use mathlib.Core.Path.{◌≡◌, refl, sym, ◌∙◌, ap}
 use mathlib.Core.Bool.{true, false, true≢false}
 use mathlib.Core.List.{List, ◌∷◌, map}
-use mathlib.Core.Option.{Option, none, some}
-use Prim.Native.Nat.{ℕ, suc, ◌+◌, ◌*◌, ◌≤◌, ◌<◌}
+use mathlib.Core.Option.{Option, none, some, none-ne-some}
+use Prim.Native.Nat.{ℕ, suc, ◌*◌, ◌≤◌, ◌<◌}
 use native.Mathlib.Nat.{zero-add}
 use native.Mathlib.Omega.{arith}
 use borrow.Author.Tests.{lt-ltb, le-ltb}
@@ -19,7 +19,7 @@ use Rattle.state.proofs.Stores.{front_part}
 use Rattle.job_text.specs.Drawing.{Place, Drawing, size_word, outer_word, loops, job_of}
 use Rattle.job_text.specs.Reading.{Read, read, and_then, read_size, read_holes, read_job}
 use Rattle.job_text.specs.Answers.{measure_of, as_whole, loop_at, loops_from, coordinates_of, Stored, stored, storing, too_many, answer_of, Holds, JobReadIs}
-use Rattle.job_text.specs.declared.lines.Measure.{Measure}
+use Rattle.text.specs.declared.read.Read as code
 use Rattle.job_text.specs.declared.loops.LoopsRead.{LoopsRead}
 use Rattle.job_text.specs.declared.jobs.TextError.TheVariants.{Unreadable, TooMany}
 use Rattle.std.specs.Prelude.{Some, None, Ok, Err}
@@ -28,21 +28,18 @@ use Rattle.job_text.proofs.Ending.{EndOf, size_end}
 use Rattle.job_text.proofs.Points.{There, measured, not_measured}
 use Rattle.job_text.proofs.Storing.{length-coordinates}
 
-none_some : {A : Type 0} {x : A} → ◌≡◌ {A = Option A} none (some x) → ⊥
-none_some e = let z : ◌≡◌ {A = ℕ} 0 1 = cc in omega arith
-
 -- ---- the size
 
 as_whole_lem : (o : Option (Read ℕ)) {f : Read ℤ} → as_whole o ≡ some f → (g : Read ℕ) × (o ≡ some g) × (f ≡ read (pos g.value) g.rest)
-as_whole_lem none e = absurd (none_some e)
+as_whole_lem none e = absurd (none-ne-some _ e)
 as_whole_lem (some g) e = (g, refl, sym (some_is e))
 
 no_whole : (o : Option (Read ℕ)) → as_whole o ≡ none → o ≡ none
 no_whole none e = refl
-no_whole (some g) e = absurd (none_some (sym e))
+no_whole (some g) e = absurd (none-ne-some _ (sym e))
 
 -- the size m is read from `at` on, with the place behind it
-pub record Sized (t : List ℕ) (at : ℕ) (m : Measure) : Type 0 where
+pub record Sized (t : List ℕ) (at : ℕ) (m : code.Read Float) : Type 0 where
   pub found : Read ℕ
   pub is : read_size (drop at t) ≡ some found
   pub value : m.value ≡ of_int binary64 (pos found.value)
@@ -53,7 +50,7 @@ module _ (t : List ℕ) (at : ℕ) where
   size-ends : (f : Read ℤ) → as_whole (read_size (drop at t)) ≡ some f → EndOf 0 (drop at t) f.rest
   size-ends f e = let g = as_whole_lem (read_size (drop at t)) e in rw g.2 (size_end (drop at t) g.1)
 
-  pub sized : at ≤ length t → (m : Measure) → Some m ≡ measure_of t (as_whole (read_size (drop at t))) → Sized t at m
+  pub sized : at ≤ length t → (m : code.Read Float) → Some m ≡ measure_of t (as_whole (read_size (drop at t))) → Sized t at m
   sized h x e =
       let m = measured t at (as_whole (read_size (drop at t))) size-ends h x e in
       let g = as_whole_lem (read_size (drop at t)) m.is in
@@ -72,7 +69,7 @@ module _ (t : List ℕ) (at : ℕ) where
 
 none_stored : (s : Stored) {s' : Stored} → some s' ≡ storing s none → ⊥
 unfolding storing
-none_stored s e = none_some (sym e)
+none_stored s e = none-ne-some _ (sym e)
 
 -- a drawing was read, and its points and loop lengths are stored
 pub record JobFound (t : List ℕ) (x : Float) (c : List Float) (l : List ℕ) (s : Stored) : Type 0 where
@@ -91,41 +88,41 @@ module _ (t : List ℕ) where
     unfolding read_job and_then
     no_size_word e = rw (le-ltb 65536 (length t) short, e)
 
-    module _ (a : There size_word t 0) where
-      pub no_size : read_size (drop 5 t) ≡ none → read_job t ≡ none
+    module _ {size_at : ℕ} (a : There size_word t 0 size_at) where
+      pub no_size : read_size (drop size_at t) ≡ none → read_job t ≡ none
       unfolding read_job and_then
       no_size e = rw (le-ltb 65536 (length t) short, a.is, e)
 
-      module _ {x : Measure} (m : Sized t 5 x) where
+      module _ {x : code.Read Float} (m : Sized t size_at x) where
         pub no_outer : behind outer_word (drop x.next t) ≡ none → read_job t ≡ none
         unfolding read_job and_then
         no_outer e = rw (le-ltb 65536 (length t) short, a.is, m.is, m.rest, e)
 
-        module _ (b : There outer_word t x.next) where
+        module _ {outer_at : ℕ} (b : There outer_word t x.next outer_at) where
           drawn : List (List Place) → Drawing
-          drawn holes = record { size = m.found.value; outer = (loop_at t (x.next + 7)).value; holes = holes }
+          drawn holes = record { size = m.found.value; outer = (loop_at t outer_at).value; holes = holes }
 
           holes_of : Option (List (List Place))
-          holes_of = read_holes (suc (length (loop_at t (x.next + 7)).rest)) (loop_at t (x.next + 7)).rest
+          holes_of = read_holes (suc (length (loop_at t outer_at).rest)) (loop_at t outer_at).rest
 
           job_is : read_job t ≡ and_then holes_of (λ (holes : List (List Place)). some (drawn holes))
           unfolding read_job and_then drawn holes_of
           job_is = rw (le-ltb 65536 (length t) short, a.is, m.is, m.rest, b.is)
 
           module _ (c c' : List Float) (l l' : List ℕ) where
-            pub no_loops : none ≡ storing (stored c l 0 0) (loops_from (drop (x.next + 7) t)) → read_job t ≡ none
+            pub no_loops : none ≡ storing (stored c l 0 0) (loops_from (drop outer_at t)) → read_job t ≡ none
             unfolding and_then storing loops_from holes_of
             no_loops e = by holes_of refl e
               where
-                by : (o : Option (List (List Place))) → holes_of ≡ o → none ≡ storing (stored c l 0 0) (and_then o (λ (holes : List (List Place)). some ((loop_at t (x.next + 7)).value ∷ holes))) → read_job t ≡ none
+                by : (o : Option (List (List Place))) → holes_of ≡ o → none ≡ storing (stored c l 0 0) (and_then o (λ (holes : List (List Place)). some ((loop_at t outer_at).value ∷ holes))) → read_job t ≡ none
                 by none i e = job_is ∙ rw i
-                by (some hs) i e = absurd (none_some e)
+                by (some hs) i e = absurd (none-ne-some _ e)
 
-            pub loops_are : (r : LoopsRead) → some (stored c' l' r.pairs r.loops) ≡ storing (stored c l 0 0) (loops_from (drop (x.next + 7) t)) → JobFound t x.value c l (stored c' l' r.pairs r.loops)
+            pub loops_are : (r : LoopsRead) → some (stored c' l' r.pairs r.loops) ≡ storing (stored c l 0 0) (loops_from (drop outer_at t)) → JobFound t x.value c l (stored c' l' r.pairs r.loops)
             unfolding and_then loops_from holes_of drawn
             loops_are r e = by holes_of refl e
               where
-                by : (o : Option (List (List Place))) → holes_of ≡ o → some (stored c' l' r.pairs r.loops) ≡ storing (stored c l 0 0) (and_then o (λ (holes : List (List Place)). some ((loop_at t (x.next + 7)).value ∷ holes))) → JobFound t x.value c l (stored c' l' r.pairs r.loops)
+                by : (o : Option (List (List Place))) → holes_of ≡ o → some (stored c' l' r.pairs r.loops) ≡ storing (stored c l 0 0) (and_then o (λ (holes : List (List Place)). some ((loop_at t outer_at).value ∷ holes))) → JobFound t x.value c l (stored c' l' r.pairs r.loops)
                 by none i e = absurd (none_stored (stored c l 0 0) e)
                 by (some hs) i e = record { drawing = drawn hs; is = job_is ∙ rw i; size = m.value; stores = e }
 
@@ -134,7 +131,7 @@ module _ (t : List ℕ) where
 module _ (t : List ℕ) (c : List Float) (l : List ℕ) where
   pub unreadable : read_job t ≡ none → JobReadIs t c l (Err Unreadable)
   unfolding answer_of
-  unreadable e = record { answer = rw e; holds = λ d f m. absurd (none_some (sym e ∙ f)) }
+  unreadable e = record { answer = rw e; holds = λ d f m. absurd (none-ne-some _ (sym e ∙ f)) }
 
 module _ (t : List ℕ) (x : Float) (c : List Float) (l : List ℕ) (s : Stored) (f : JobFound t x c l s) where
   total_is : s.pairs ≡ length (joined (loops f.drawing))

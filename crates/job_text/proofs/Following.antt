@@ -13,8 +13,8 @@ use Rattle.state.specs.State.{joined}
 use Rattle.job_text.specs.Drawing.{Place}
 use Rattle.job_text.specs.Reading.{Read, read, before, and_then, read_at, read_loop}
 use Rattle.job_text.specs.Answers.{place_in, loop_at, coordinates_of, LoopReadIs}
-use Rattle.text.specs.declared.storing.Counted.{Counted}
-use Rattle.job_text.specs.declared.lines.AtLine.{AtLine}
+use Rattle.geometry.specs.declared.Point.{Point}
+use Rattle.text.specs.declared.read.Read as code
 use Rattle.job_text.proofs.Ending.{EndOf, end_length, behind_end, end_place, place_of_end, at_end}
 use Rattle.job_text.proofs.Points.{Line}
 
@@ -79,7 +79,7 @@ module _ (t : List ℕ) (at pairs : ℕ) (old : List Float) where
   left-start h = record { within = (omega arith, h); rest = refl; counted = omega arith; stored = rw add-zero }
 
   module _ (new : List Float) (next count : ℕ) (l : Left t at pairs old new next count) where
-    pub left_step : {q : AtLine} → Line t next q → (newer : List Float) → newer ≡ sets new ((pairs + count) * 2) (q.x ∷ q.y ∷ []) → Left t at pairs old newer q.next (count + 1)
+    pub left_step : {q : code.Read Point} → Line t next q → (newer : List Float) → newer ≡ sets new ((pairs + count) * 2) (q.value.x ∷ q.value.y ∷ []) → Left t at pairs old newer q.next (count + 1)
     unfolding joined
     left_step {q} f newer e =
         let more : loop_at t next ≡ before f.found.value (loop_at t q.next) = loop_more (drop next t) f.is ∙ rw f.rest in
@@ -91,7 +91,7 @@ module _ (t : List ℕ) (at pairs : ℕ) (old : List Float) where
         ap (λ (r : Read (List Place)). sets new ((pairs + count) * 2) (coordinates_of r.value)) more ∙ rw (i, e, f.x_is, f.y_is) in
         record { within = (omega arith, omega arith); rest = l.rest ∙ ap (λ (r : Read (List Place)). r.rest) more; counted = omega arith; stored = l.stored ∙ s }
 
-    pub left_done : read_at (drop next t) ≡ none → LoopReadIs t at pairs old new (record { next = next; count = count })
+    pub left_done : read_at (drop next t) ≡ none → LoopReadIs t at pairs old new (record { value = count; next = next })
     unfolding joined
     left_done e =
         let w = l.within in
@@ -105,8 +105,8 @@ module _ (t : List ℕ) (at pairs : ℕ) (old : List Float) where
 
 -- ---- what a loop that was read tells
 
-pub loop_place : (t : List ℕ) (at pairs : ℕ) (old new : List Float) (r : Counted) → at ≤ length t → LoopReadIs t at pairs old new r
-    → (at + r.count ≤ r.next) × (r.next ≤ length t) × ((loop_at t at).rest ≡ drop r.next t)
+pub loop_place : (t : List ℕ) (at pairs : ℕ) (old new : List Float) (r : code.Read ℕ) → at ≤ length t → LoopReadIs t at pairs old new r
+    → (at + r.value ≤ r.next) × (r.next ≤ length t) × ((loop_at t at).rest ≡ drop r.next t)
 loop_place t at pairs old new r h i =
     let p = end_place t at h (loop_end (length (drop at t)) (drop at t)) in
     let n = i.next in

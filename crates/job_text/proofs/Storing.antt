@@ -19,7 +19,7 @@ use Rattle.text.specs.Fields.{behind}
 use Rattle.job_text.specs.Drawing.{Place, coordinates, hole_word}
 use Rattle.job_text.specs.Reading.{Read, and_then, read_loop, read_holes}
 use Rattle.job_text.specs.Answers.{loop_at, holes_at, loops_from, coordinates_of, LoopReadIs, Stored, stored, storing}
-use Rattle.text.specs.declared.storing.Counted.{Counted}
+use Rattle.text.specs.declared.read.Read as code
 use Rattle.job_text.proofs.Ending.{end_length, behind_end, word_end}
 use Rattle.job_text.proofs.Points.{There}
 use Rattle.job_text.proofs.Following.{loop_end, loop_place}
@@ -110,11 +110,11 @@ module _ (t : List ℕ) (next : ℕ) (s : Stored) where
       let l = length-drop next t in
       ap (storing s) (no_hole (length (drop next t)) (drop next t) (λ z. omega arith) e)
 
-  pub holes_step : There hole_word t next → (coords : List Float) (lengths : List ℕ) (r : Counted) → LoopReadIs t (next + 5) s.pairs s.coords coords r → lengths ≡ set s.lengths s.loops r.count
-      → storing s (holes_at t next) ≡ storing (stored coords lengths (s.pairs + r.count) (s.loops + 1)) (holes_at t r.next)
-  holes_step w coords lengths r i e =
-      let a = drop (next + 5) t in
-      let p = loop_place t (next + 5) s.pairs s.coords coords r w.within i in
+  pub holes_step : {at : ℕ} → There hole_word t next at → (coords : List Float) (lengths : List ℕ) (r : code.Read ℕ) → LoopReadIs t at s.pairs s.coords coords r → lengths ≡ set s.lengths s.loops r.value
+      → storing s (holes_at t next) ≡ storing (stored coords lengths (s.pairs + r.value) (s.loops + 1)) (holes_at t r.next)
+  holes_step {at} w coords lengths r i e =
+      let a = drop at t in
+      let p = loop_place t at s.pairs s.coords coords r w.within.1 i in
       let short = shorter (drop next t) a w.is in
       let one : holes_at t next ≡ behind_one (hole a) (holes_at t r.next) =
       holes_one (length (drop next t)) (drop next t) a w.is
@@ -122,12 +122,12 @@ module _ (t : List ℕ) (next : ℕ) (s : Stored) where
       ap (storing s) one ∙ storing-behind s (hole a) (holes_at t r.next) ∙ rw (i.stored, e, i.count)
 
 -- the outer loop, and then the holes
-pub loops_step : (t : List ℕ) (at : ℕ) (c : List Float) (l : List ℕ) → at ≤ length t → (coords : List Float) (lengths : List ℕ) (r : Counted) → LoopReadIs t at 0 c coords r → lengths ≡ set l 0 r.count
-    → storing (stored c l 0 0) (loops_from (drop at t)) ≡ storing (stored coords lengths r.count 1) (holes_at t r.next)
+pub loops_step : (t : List ℕ) (at : ℕ) (c : List Float) (l : List ℕ) → at ≤ length t → (coords : List Float) (lengths : List ℕ) (r : code.Read ℕ) → LoopReadIs t at 0 c coords r → lengths ≡ set l 0 r.value
+    → storing (stored c l 0 0) (loops_from (drop at t)) ≡ storing (stored coords lengths r.value 1) (holes_at t r.next)
 unfolding loops_from
 loops_step t at c l h coords lengths r i e =
     let p = loop_place t at 0 c coords r h i in
     let o = loop_at t at in
     let n = i.count in
-    let z : 0 + length o.value ≡ r.count = omega arith in
+    let z : 0 + length o.value ≡ r.value = omega arith in
     storing-behind (stored c l 0 0) o (read_holes (suc (length o.rest)) o.rest) ∙ rw (z, i.stored, e, n, p.2)

@@ -9,9 +9,8 @@ use Rattle.state.specs.State.{joined}
 use Rattle.input.specs.Job.{loop_limit, pair_limit}
 use Rattle.job_text.specs.Drawing.{Place, Drawing, coordinates, loops, job_of}
 use Rattle.job_text.specs.Reading.{Read, read, and_then, read_loop, read_holes, read_job}
-use Rattle.text.specs.declared.storing.Counted.{Counted}
-use Rattle.job_text.specs.declared.lines.Measure.{Measure}
-use Rattle.job_text.specs.declared.lines.AtLine.{AtLine}
+use Rattle.geometry.specs.declared.Point.{Point}
+use Rattle.text.specs.declared.read.Read as code
 use Rattle.job_text.specs.declared.loops.LoopsRead.{LoopsRead}
 use Rattle.job_text.specs.declared.jobs.JobRead.{JobRead}
 use Rattle.job_text.specs.declared.jobs.TextError.{TextError}
@@ -53,7 +52,7 @@ pub record JobReadIs (t : List ℕ) (coords : List Float) (lengths : List ℕ) (
 abbrev pub place_in : List ℕ → List ℕ → ℕ
 place_in t rest = length t - length rest
 
-abbrev pub measure_of : List ℕ → Option (Read ℤ) → rust.Option Measure
+abbrev pub measure_of : List ℕ → Option (Read ℤ) → rust.Option (code.Read Float)
 measure_of t none = None
 measure_of t (some r) = Some (record { value = of_int binary64 r.value; next = place_in t r.rest })
 
@@ -62,9 +61,9 @@ abbrev pub as_whole : Option (Read ℕ) → Option (Read ℤ)
 as_whole none = none
 as_whole (some r) = some (read (pos r.value) r.rest)
 
-abbrev pub line_of : List ℕ → Option (Read Place) → rust.Option AtLine
+abbrev pub line_of : List ℕ → Option (Read Place) → rust.Option (code.Read Point)
 line_of t none = None
-line_of t (some r) = Some (record { x = of_int binary64 r.value.x; y = of_int binary64 r.value.y; next = place_in t r.rest })
+line_of t (some r) = Some (record { value = record { x = of_int binary64 r.value.x; y = of_int binary64 r.value.y }; next = place_in t r.rest })
 
 -- ---- loops
 
@@ -84,9 +83,9 @@ abbrev pub coordinates_of : List Place → List Float
 coordinates_of ps = joined (map coordinates ps)
 
 -- Points are stored from pair `pairs` on; a store beyond the buffer's end stores nothing.
-pub record LoopReadIs (t : List ℕ) (at pairs : ℕ) (old new : List Float) (r : Counted) : Type 0 where
+pub record LoopReadIs (t : List ℕ) (at pairs : ℕ) (old new : List Float) (r : code.Read ℕ) : Type 0 where
   pub next : r.next ≡ place_in t (loop_at t at).rest
-  pub count : r.count ≡ length (loop_at t at).value
+  pub count : r.value ≡ length (loop_at t at).value
   pub stored : new ≡ sets old (pairs * 2) (coordinates_of (loop_at t at).value)
 
 -- the two buffers, with how many pairs and loops were met

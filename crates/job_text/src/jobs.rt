@@ -1,11 +1,13 @@
 // A job's text, whole.
-ghost use Rattle.std.specs.Prelude.{◌*◌, ◌≡◌, length};
-ghost use Rattle.input.specs.Job.{loop_limit, pair_limit};
+ghost use Rattle.std.specs.Prelude.{◌*◌, ◌≡◌, ◌≤◌, length, take};
+ghost use Rattle.input.specs.Defaults.{defaults};
+ghost use Rattle.input.specs.Job.{job, job_of, loop_limit, pair_limit};
 ghost use Rattle.job_text.specs.Answers.{JobReadIs, number_of};
 
 use crate::lines::read_size;
 use crate::loops::read_loops;
-use text::begins_with;
+use input::Job;
+use text::behind;
 
 // A job read: its size, and how many pairs and loops were stored.
 #[derive(Clone, Copy, PartialEq, Debug)]
@@ -13,6 +15,21 @@ pub struct JobRead {
     pub size: f64,
     pub pairs: usize,
     pub loops: usize,
+}
+
+impl JobRead {
+    // The job, in the buffers that it was read into, with the default options.
+    pub fn job<'a>(self, coords: &'a [f64], loop_lengths: &'a [u16]) -> Job<'a>
+        requires { (self.pairs * 2 ≤ length coords.now) × (self.loops ≤ length loop_lengths.now) }
+        ensures { job_of result ≡ job (take (self.pairs * 2) coords.now) (take self.loops loop_lengths.now) self.size defaults }
+    {
+        Job {
+            coords: &coords[..self.pairs * 2],
+            loop_lengths: &loop_lengths[..self.loops],
+            h: self.size,
+            options: input::defaults(),
+        }
+    }
 }
 
 // Why a text gives no job: it is the text of none, or of one with too many loops or pairs.
@@ -46,24 +63,16 @@ pub fn read_job(
     if 65536 < text.len() {
         return Err(TextError::Unreadable);
     }
-    if !begins_with(text, 0, b"size\t") {
-        return Err(TextError::Unreadable);
-    }
-    let size = read_size(text, 5).ok_or(TextError::Unreadable)?;
-    if !begins_with(text, size.next, b"\nouter\n") {
-        return Err(TextError::Unreadable);
-    }
-    let read = read_loops(text, size.next + 7, coords, loop_lengths).ok_or(TextError::Unreadable)?;
-    if 16 < read.loops {
+    let size_at = behind(text, 0, b"size\t").ok_or(TextError::Unreadable)?;
+    let size = read_size(text, size_at).ok_or(TextError::Unreadable)?;
+    let outer_at = behind(text, size.next, b"\nouter\n").ok_or(TextError::Unreadable)?;
+    let read = read_loops(text, outer_at, coords, loop_lengths).ok_or(TextError::Unreadable)?;
+    if 16 < read.loops || 2048 < read.pairs {
         return Err(TextError::TooMany);
     }
-    if 2048 < read.pairs {
-        Err(TextError::TooMany)
-    } else {
-        Ok(JobRead {
-            size: size.value,
-            pairs: read.pairs,
-            loops: read.loops,
-        })
-    }
+    Ok(JobRead {
+        size: size.value,
+        pairs: read.pairs,
+        loops: read.loops,
+    })
 }

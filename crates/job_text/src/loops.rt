@@ -1,14 +1,12 @@
 // The loops of a job's text. Points and lengths are stored while they fit, and all are counted: reading goes on to the text's end,
 // since an unreadable text is 11 however many points come before.
-ghost use Rattle.std.specs.Prelude.{◌≡◌, cond, ◌+◌, ◌*◌, ◌≤◌, length, drop};
-ghost use Rattle.std.proofs.Math.Option.{none, some};
+ghost use Rattle.std.specs.Prelude.{◌≡◌, ◌*◌, ◌≤◌, length, drop};
 ghost use Rattle.input.specs.Job.{loop_limit, pair_limit};
-ghost use Rattle.text.specs.Fields.{behind};
-ghost use Rattle.job_text.specs.Drawing.{hole_word};
 ghost use Rattle.job_text.specs.Answers.{LoopReadIs, holes_at, loops_from, storing, stored, stored_in};
 
 use crate::lines::read_at;
-use text::{Counted, begins_with, store, store_point};
+use state::narrow;
+use text::{Read, behind, store, store_point};
 
 // All loops: how many pairs of coordinates, and how many loops.
 #[derive(Clone, Copy, PartialEq, Eq, Debug)]
@@ -17,8 +15,8 @@ pub struct LoopsRead {
     pub loops: usize,
 }
 
-// `at` lines from `at` on, as long as they come, stored from pair `pairs` on.
-fn read_loop(text: &[u8], at: usize, coords: &mut [f64], pairs: usize) -> Counted
+// `at` lines from `at` on, as long as they come, stored from pair `pairs` on, and counted.
+fn read_loop(text: &[u8], at: usize, coords: &mut [f64], pairs: usize) -> Read<usize>
     requires { (at ≤ length text.now) × (pairs ≤ at) × (length coords.old ≡ pair_limit * 2) }
     ensures { LoopReadIs text.now at pairs coords.old coords.new result }
 {
@@ -26,19 +24,11 @@ fn read_loop(text: &[u8], at: usize, coords: &mut [f64], pairs: usize) -> Counte
     let mut count = 0usize;
     // by the place behind each line, which no index counts
     while let Some(line) = read_at(text, next) {
-        store_point(coords, pairs + count, line.x, line.y);
+        store_point(coords, pairs + count, line.value.x, line.value.y);
         count += 1;
         next = line.next;
     }
-    Counted { next, count }
-}
-
-// Whether a `hole` line stands at `at`.
-fn hole_at(text: &[u8], at: usize) -> bool
-    requires { at ≤ length text.now }
-    ensures { behind hole_word (drop at text.now) ≡ cond result (some (drop (at + 5) text.now)) none }
-{
-    begins_with(text, at, b"hole\n")
+    Read { value: count, next }
 }
 
 // Holes from `at` up to the text's end, behind an outer loop of `outer` points.
@@ -57,12 +47,10 @@ fn read_holes(
     let mut next = at;
     // by the place behind each hole, which no index counts
     while next < text.len() {
-        if !hole_at(text, next) {
-            return None;
-        }
-        let hole = read_loop(text, next + 5, coords, pairs);
-        store(loop_lengths, loops, hole.count as u16);
-        pairs += hole.count;
+        let at = behind(text, next, b"hole\n")?;
+        let hole = read_loop(text, at, coords, pairs);
+        store(loop_lengths, loops, narrow(hole.value));
+        pairs += hole.value;
         loops += 1;
         next = hole.next;
     }
@@ -80,6 +68,6 @@ pub fn read_loops(
     ensures { stored_in result coords.new loop_lengths.new ≡ storing (stored coords.old loop_lengths.old 0 0) (loops_from (drop at text.now)) }
 {
     let outer = read_loop(text, at, coords, 0);
-    store(loop_lengths, 0, outer.count as u16);
-    read_holes(text, outer.next, coords, loop_lengths, outer.count)
+    store(loop_lengths, 0, narrow(outer.value));
+    read_holes(text, outer.next, coords, loop_lengths, outer.value)
 }

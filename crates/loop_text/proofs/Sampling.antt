@@ -11,7 +11,6 @@ use Rattle.state.specs.Limits.{front_limit, front_node_limit, points_length, qua
 use Rattle.state.specs.State.{Held, cut, reading, no_counts}
 use Rattle.state.specs.Call.{held, left, lengths_of, lent, job_left}
 use Rattle.state.specs.Sound.{Sound}
-use Rattle.input.specs.declared.Options.{Options}
 use Rattle.input.specs.Defaults.{defaults}
 use Rattle.input.specs.Job.{Job, job, input_number}
 use Rattle.sampling.specs.Sample.{on_job, sample_call}

@@ -1,7 +1,7 @@
 // The text of a job in, the `s` lines of its sampled loops out: what the program `loops` does between its reading and its writing.
 #![tactic(auto)]
 
-ghost use Rattle.std.specs.Prelude.{◌+◌, ◌≤◌, length, take};
+ghost use Rattle.std.specs.Prelude.{◌+◌, ◌≤◌, length};
 ghost use Rattle.geometry.specs.Domain.{sum_of};
 ghost use Rattle.state.specs.Limits.{front_limit, front_node_limit};
 ghost use Rattle.state.specs.State.{cut};
@@ -20,7 +20,7 @@ use job_text::read_job;
 use state::Lent;
 use text::Writer;
 
-// A line for each loop.
+// A line for each loop, of two slices: of a slice the check knows that its numbers fit, of a field it does not.
 fn put_lines(w: &mut Writer, nodes: &[u16], lengths: &[u16])
     requires { (w.old.at + text_limit ≤ length w.old.out.now) × (length lengths.now ≤ front_limit) × (sum_of lengths.now ≤ front_node_limit) × (sum_of lengths.now ≤ length nodes.now) }
     ensures put { Wrote w.old (loops_text (cut lengths.now nodes.now)) w.new }
@@ -28,17 +28,6 @@ fn put_lines(w: &mut Writer, nodes: &[u16], lengths: &[u16])
     ensures same { Same w.old w.new }
 {
     put_rings(w, b's', nodes, lengths);
-}
-
-// The first `fronts` fronts of lent buffers.
-fn put_fronts(w: &mut Writer, lent: &Lent, fronts: usize)
-    requires room { w.old.at + text_limit ≤ length w.old.out.now }
-    requires few { (fronts ≤ front_limit) × (fronts ≤ length lent.now.front_lengths.now) × (sum_of (take fronts lent.now.front_lengths.now) ≤ front_node_limit) × (sum_of (take fronts lent.now.front_lengths.now) ≤ length lent.now.front_nodes.now) }
-    ensures put { Wrote w.old (loops_text (cut (take fronts lent.now.front_lengths.now) lent.now.front_nodes.now)) w.new }
-    ensures upper_bound { w.new.at ≤ w.old.at + text_limit }
-    ensures same { Same w.old w.new }
-{
-    put_lines(w, lent.front_nodes, &lent.front_lengths[..fronts]);
 }
 
 // The sampled loops of a job.
@@ -59,7 +48,10 @@ fn put_sampled(w: &mut Writer, job: &Job)
         front_lengths: &mut front_lengths,
     };
     match sampling::sample(job, &mut lent) {
-        Ok(counts) => put_fronts(w, &lent, counts.fronts),
+        Ok(counts) => {
+            let loops = lent.fronts(counts);
+            put_lines(w, loops.nodes, loops.lengths);
+        }
         Err(refusal) => put_refused(w, refusal.number()),
     }
 }
@@ -74,12 +66,7 @@ fn put_text(w: &mut Writer, input: &[u8])
     let mut loop_lengths = [0u16; 16];
     match read_job(input, &mut coords, &mut loop_lengths) {
         Ok(read) => {
-            let job = Job {
-                coords: &coords[..read.pairs * 2],
-                loop_lengths: &loop_lengths[..read.loops],
-                h: read.size,
-                options: input::defaults(),
-            };
+            let job = read.job(&coords, &loop_lengths);
             put_sampled(w, &job);
         }
         Err(error) => put_refused(w, error.number()),

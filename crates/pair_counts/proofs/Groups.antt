@@ -2,15 +2,15 @@
 use mathlib.Core.Path.{◌≡◌, ap, sym, ◌∙◌}
 use mathlib.Core.Bool.{Bool}
 use mathlib.Core.List.{List, ◌++◌}
-use Prim.Native.Nat.{ℕ, ◌≤◌, ◌<◌}
+use Prim.Native.Nat.{ℕ, ◌<◌}
 use native.Mathlib.Omega.{arith}
 use lib.ListN.{length, get_or, take}
-use Rattle.geometry.specs.Domain.{sum_of}
 use Rattle.state.specs.State.{cut}
 use Rattle.state.specs.Limits.{point_limit}
 use Rattle.pair_counts.specs.Twice.{all_twice}
 use Rattle.pair_counts.specs.Sides.{lower, higher, ends_of_all}
 use Rattle.pair_counts.specs.Tally.{sides_twice}
+use Rattle.pair_counts.specs.declared.rings.Rings.{Rings}
 use Rattle.pair_counts.proofs.Filling.{ends-append}
 use Rattle.pair_counts.proofs.Ends.{Below, below_append, below_cut, places}
 use Rattle.pair_counts.proofs.Flat.{flat_twice}
@@ -19,16 +19,18 @@ pub three_groups : (f : ℕ → ℕ → ℕ) (A B C : List (List ℕ)) (l₀ l�
     → take a l₁ ≡ take 0 l₀ ++ ends_of_all f A → take b l₂ ≡ take a l₁ ++ ends_of_all f B → take n l₃ ≡ take b l₂ ++ ends_of_all f C → take n l₃ ≡ ends_of_all f (A ++ B ++ C)
 three_groups f A B C l₀ l₁ l₂ l₃ a b n p q r = r ∙ rw (q, p) (sym (ends-append f (A ++ B) C ∙ ap (λ s. s ++ ends_of_all f C) (ends-append f A B)))
 
--- a group of rings whose nodes are below the limit
-pub record Group (lengths nodes : List ℕ) : Type 0 where
-  pub fits : sum_of lengths ≤ length nodes
-  pub small : (i : ℕ) → i < sum_of lengths → get_or nodes i 0 < point_limit
+-- the rings of three groups
+abbrev pub rings_of : Rings → Rings → Rings → List (List ℕ)
+rings_of l q f = cut l.lengths.now l.nodes.now ++ cut q.lengths.now q.nodes.now ++ cut f.lengths.now f.nodes.now
 
-pub below_groups : (la xa lb xb lc xc : List ℕ) → Group la xa → Group lb xb → Group lc xc → Below point_limit (cut la xa ++ cut lb xb ++ cut lc xc)
-below_groups la xa lb xb lc xc a b c =
-    below_append point_limit (cut la xa ++ cut lb xb) (cut lc xc)
-    (below_append point_limit (cut la xa) (cut lb xb) (below_cut point_limit la xa a.fits a.small) (below_cut point_limit lb xb b.fits b.small))
-    (below_cut point_limit lc xc c.fits c.small)
+below_group : (r : Rings) → Below point_limit (cut r.lengths.now r.nodes.now)
+below_group r = below_cut point_limit r.lengths.now r.nodes.now r.fits r.below
+
+pub below_groups : (l q f : Rings) → Below point_limit (rings_of l q f)
+below_groups l q f =
+    below_append point_limit (cut l.lengths.now l.nodes.now ++ cut q.lengths.now q.nodes.now) (cut f.lengths.now f.nodes.now)
+    (below_append point_limit (cut l.lengths.now l.nodes.now) (cut q.lengths.now q.nodes.now) (below_group l) (below_group q))
+    (below_group f)
 
 -- the lists of all sides
 module _ (rings : List (List ℕ)) (below : Below point_limit rings) (lows highs : List ℕ) (lows-are : lows ≡ ends_of_all lower rings) (highs-are : highs ≡ ends_of_all higher rings) where

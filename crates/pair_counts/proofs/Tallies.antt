@@ -2,13 +2,14 @@
 use mathlib.Core.Path.{◌≡◌, refl, ap, ap₂, sym, ◌∙◌}
 use mathlib.Core.Bool.{Bool, true, ◌&&◌}
 use mathlib.Core.List.{List, [], ◌∷◌}
-use Prim.Native.Nat.{ℕ, suc, ◌+◌, ◌≤◌, ◌<◌}
+use Prim.Native.Nat.{ℕ, zero, suc, ◌+◌, ◌≤◌, ◌<◌}
 use native.Mathlib.Omega.{arith}
 use native.Mathlib.Decide.{ℕ_discrete}
 use borrow.Author.Tests.{eq-eqb, ne_eqb, eqb-true}
 use lib.Dec.{eqb}
 use lib.ListN.{length, get_or, set, replicate, length-replicate, get_or-replicate}
 use lib.Seq.{ext_get_or, get_or-set_same, get_or-set_other}
+use Rattle.std.specs.List.{list_all}
 use Rattle.pair_counts.specs.Tally.{times, every_of, each_twice}
 use Rattle.pair_counts.proofs.Every.{and_parts, and_both}
 
@@ -31,16 +32,20 @@ more_times v x xs = go (ℕ_discrete v x)
     go (yes z) = omega (arith, times_here v x xs z)
     go (no z) = omega (arith, times_other v x xs z)
 
+-- each node of a list stands there
+pub times_at : (xs : List ℕ) (k d : ℕ) → k < length xs → 0 < times (get_or xs k d) xs
+times_at [] k d l = absurd (omega arith)
+times_at (x ∷ xs) zero d l = omega (arith, times_here x x xs refl)
+times_at (x ∷ xs) (suc k) d l = omega (arith, times_at xs k d (omega arith), more_times (get_or xs k d) x xs)
+
 -- ---- a test of each
 
 module _ (p : ℕ → Bool) where
-  pub of_cons : (x : ℕ) (xs : List ℕ) → every_of p (x ∷ xs) ≡ (p x && every_of p xs)
+  -- it is the library's
+  pub of_each : (xs : List ℕ) → list_all p xs ≡ every_of p xs
   unfolding every_of
-  of_cons x xs = refl
-
-  pub of_none : every_of p [] ≡ true
-  unfolding every_of
-  of_none = refl
+  of_each [] = refl
+  of_each (x ∷ xs) = ap (λ b. p x && b) (of_each xs)
 
   of_at : (xs : List ℕ) → every_of p xs ≡ true → (v : ℕ) → 0 < times v xs → p v ≡ true
   unfolding every_of

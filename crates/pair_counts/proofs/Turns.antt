@@ -1,19 +1,12 @@
--- Counting, testing and clearing along the nodes of a chain, one turn each.
-use mathlib.Core.Path.{◌≡◌, sym, ◌∙◌}
-use mathlib.Core.Bool.{Bool, true, false, ◌&&◌}
+-- Counting and clearing along the nodes of a chain, one turn each.
+use mathlib.Core.Path.{◌≡◌}
 use mathlib.Core.List.{List, [], ◌∷◌}
 use Prim.Native.Nat.{ℕ, ◌+◌, ◌<◌}
 use native.Mathlib.Omega.{arith}
-use borrow.Author.Tests.{eq-eqb, ne_eqb}
-use lib.Dec.{eqb}
 use lib.ListN.{length, get_or, set, replicate}
 use Rattle.state.specs.Limits.{point_limit}
-use Rattle.pair_counts.specs.Tally.{times, every_of}
-use Rattle.pair_counts.proofs.Tallies.{times_none, zeros_at, zeros_are, of_cons, of_none, count_step, clear_step}
-
--- the test of a count
-abbrev pub is_two : List ℕ → ℕ → Bool
-is_two tally v = eqb (get_or tally v 0) 2
+use Rattle.pair_counts.specs.Tally.{times}
+use Rattle.pair_counts.proofs.Tallies.{times_none, zeros_at, zeros_are, count_step, clear_step}
 
 -- the tally and the nodes that are left give all
 abbrev pub Counted : List ℕ → List ℕ → List ℕ → Type 0
@@ -31,9 +24,6 @@ count_end all left tally c e v l =
     let z : times v left ≡ 0 = rw e (times_none v) in
     omega (arith, c v l)
 
-pub test_end : (tally all left : List ℕ) → every_of (is_two tally) all ≡ every_of (is_two tally) left → left ≡ [] → true ≡ every_of (is_two tally) all
-test_end tally all left t e = sym (t ∙ rw e (of_none (is_two tally)))
-
 pub clear_end : (left tally : List ℕ) → length tally ≡ point_limit → Cleared left tally → left ≡ [] → tally ≡ replicate point_limit 0
 clear_end left tally long c e = zeros_are point_limit tally long (λ v l. c v l (rw e (times_none v)))
 
@@ -43,16 +33,6 @@ module _ (all left tally : List ℕ) {node : ℕ} {later : List ℕ} (split : le
   pub count_turn : length tally ≡ point_limit → node < point_limit → Counted all left tally → Counted all later (set tally node (get_or tally node 0 + 1))
   count_turn long small c =
       count_step point_limit tally long node small later all (λ v l. rw split at (c v l))
-
-  -- the count of the node, and then those of the others
-  both : every_of (is_two tally) all ≡ every_of (is_two tally) left → every_of (is_two tally) all ≡ (is_two tally node && every_of (is_two tally) later)
-  both t = t ∙ rw split (of_cons (is_two tally) node later)
-
-  pub test_no : every_of (is_two tally) all ≡ every_of (is_two tally) left → (get_or tally node 0 ≡ 2 → ⊥) → false ≡ every_of (is_two tally) all
-  test_no t h = sym (both t ∙ rw (ne_eqb (get_or tally node 0) 2 h))
-
-  pub test-turn : every_of (is_two tally) all ≡ every_of (is_two tally) left → get_or tally node 0 ≡ 2 → every_of (is_two tally) all ≡ every_of (is_two tally) later
-  test-turn t h = both t ∙ rw (eq-eqb (get_or tally node 0) 2 h)
 
 pub clear-turn : (left tally : List ℕ) {node : ℕ} {later : List ℕ} → left ≡ node ∷ later → length tally ≡ point_limit → node < point_limit → Cleared left tally → Cleared later (set tally node 0)
 clear-turn left tally {node} {later} split long small c =

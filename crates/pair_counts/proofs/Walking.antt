@@ -11,7 +11,7 @@ use Rattle.state.specs.Limits.{point_limit}
 use Rattle.pair_counts.specs.Sides.{side_limit}
 use Rattle.pair_counts.specs.Chains.{along, chain, Walk}
 use Rattle.pair_counts.specs.Tally.{times}
-use Rattle.pair_counts.proofs.Tallies.{times_none, times_here, times_other}
+use Rattle.pair_counts.proofs.Tallies.{times_none, times_here, times_other, times_at}
 
 -- behind each of the first n places stands a lower one, or none
 abbrev pub Falls : List ℕ → ℕ → Type 0
@@ -118,6 +118,9 @@ module _ (highs behind : List ℕ) (at : ℕ) (walk : Walk highs behind at) wher
   pub chain_small : (v : ℕ) → 0 < times v (chain behind highs at) → v < point_limit
   unfolding chain
   chain_small v h = along_small behind highs point_limit (length highs) v at at walk.falls walk.nodes walk.within h
+
+  pub place_small : (k d : ℕ) → k < length (chain behind highs at) → get_or (chain behind highs at) k d < point_limit
+  place_small k d l = chain_small _ (times_at (chain behind highs at) k d l)
 
   pub first_small : {node : ℕ} {left : List ℕ} → chain behind highs at ≡ node ∷ left → node < point_limit
   first_small {node} {left} e = chain_small node (rw e (omega (arith, times_here node node left refl)))

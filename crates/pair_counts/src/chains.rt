@@ -8,7 +8,6 @@ ghost use Rattle.pair_counts.specs.Tally.{each_twice, sides_twice};
 
 use crate::chain::Chain;
 use crate::tally::chain_twice;
-use geometry::wide;
 use state::narrow;
 
 // Each side is put before the chain of its lower node.
@@ -19,13 +18,14 @@ fn link(lows: &[u16], first: &mut [u16], behind: &mut [u16])
     ensures { Linked lows.now behind.new first.new (length lows.now) }
 {
     for (i, low) in lows.iter().enumerate() {
-        let node = wide(*low);
+        let node = usize::from(*low);
         behind[i] = first[node];
         first[node] = narrow(i + 1);
     }
 }
 
-// On each node's chain each higher node stands twice.
+// On each node's chain each higher node stands twice. Tried as `first.iter().all(..)`, the proof did not close: the library's lemma
+// asks for a closure that is the same after each call, and this one has the tally.
 fn chains_twice(highs: &[u16], behind: &[u16], first: &[u16], tally: &mut [u16]) -> bool
     requires first_len { (length first.now ≡ point_limit) × (tally.old ≡ replicate point_limit 0) }
     requires by_index { (u : ℕ) → u < point_limit → Walk highs.now behind.now (get_or first.now u 0) }

@@ -1,10 +1,12 @@
-// The sides of rings, written into two buffers: the lower node of each, and the higher.
+// The sides of rings, written into two buffers: the lower node of each, and the higher. One buffer of pairs is no plainer: `link`
+// reads the lower nodes alone, a chain the higher, and specs/Sides has a list of each.
 ghost use Rattle.std.specs.Prelude.{◌≡◌, ◌++◌, ◌+◌, ◌≤◌, length, take};
 ghost use Rattle.geometry.specs.Domain.{sum_of};
 ghost use Rattle.state.specs.State.{cut};
 ghost use Rattle.pair_counts.specs.Sides as specs;
 
-use geometry::{next_of, wide};
+use crate::rings::Rings;
+use geometry::next_of;
 
 fn lower(a: u16, b: u16) -> u16
     ensures { result ≡ specs.lower a b }
@@ -32,24 +34,17 @@ fn put_ring(lows: &mut [u16], highs: &mut [u16], at: usize, ring: &[u16])
     }
 }
 
-// The sides of rings that stand one after the other in `nodes`, from place `at` on. The place behind them.
-pub fn put_rings(
-    lows: &mut [u16],
-    highs: &mut [u16],
-    at: usize,
-    nodes: &[u16],
-    lengths: &[u16],
-) -> usize
-    requires lengths_in_bounds { sum_of lengths.now ≤ length nodes.now }
-    requires lengths_in_bounds_2 { (at + sum_of lengths.now ≤ length lows.old) × (at + sum_of lengths.now ≤ length highs.old) }
-    ensures value { result ≡ at + sum_of lengths.now }
-    ensures lows_after { take result lows.new ≡ take at lows.old ++ specs.ends_of_all specs.lower (cut lengths.now nodes.now) }
-    ensures highs_after { take result highs.new ≡ take at highs.old ++ specs.ends_of_all specs.higher (cut lengths.now nodes.now) }
+// The sides of rings, from place `at` on. The place behind them. `scan` would keep the sum `start` inside a closure.
+pub fn put_rings(lows: &mut [u16], highs: &mut [u16], at: usize, rings: &Rings) -> usize
+    requires { (at + sum_of rings.now.lengths.now ≤ length lows.old) × (at + sum_of rings.now.lengths.now ≤ length highs.old) }
+    ensures value { result ≡ at + sum_of rings.now.lengths.now }
+    ensures lows_after { take result lows.new ≡ take at lows.old ++ specs.ends_of_all specs.lower (cut rings.now.lengths.now rings.now.nodes.now) }
+    ensures highs_after { take result highs.new ≡ take at highs.old ++ specs.ends_of_all specs.higher (cut rings.now.lengths.now rings.now.nodes.now) }
 {
     let mut start = 0usize;
-    for n in lengths {
-        let end = start + wide(*n);
-        put_ring(lows, highs, at + start, &nodes[start..end]);
+    for n in rings.lengths {
+        let end = start + usize::from(*n);
+        put_ring(lows, highs, at + start, &rings.nodes[start..end]);
         start = end;
     }
     at + start

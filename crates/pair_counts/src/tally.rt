@@ -5,7 +5,6 @@ ghost use Rattle.pair_counts.specs.Chains as specs;
 ghost use Rattle.pair_counts.specs.Tally.{times, every_of, each_twice};
 
 use crate::chain::Chain;
-use geometry::wide;
 
 // How often each higher node stands on the chain.
 fn count(chain: Chain, tally: &mut [u16])
@@ -13,21 +12,23 @@ fn count(chain: Chain, tally: &mut [u16])
     ensures { (v : ℕ) → v < point_limit → get_or tally.new v 0 ≡ times v (specs.chain chain.entry.behind.now chain.entry.highs.now chain.entry.place) }
 {
     for node in chain {
-        tally[wide(node)] += 1;
+        tally[usize::from(node)] += 1;
     }
 }
 
+fn is_two(tally: &[u16], node: u16) -> bool
+    requires { node < length tally.now }
+    ensures { result ≡ eqb (get_or tally.now node 0) 2 }
+{
+    tally[usize::from(node)] == 2
+}
+
 // Each of them is counted twice.
-fn all_two(chain: Chain, tally: &[u16]) -> bool
+fn all_two(mut chain: Chain, tally: &[u16]) -> bool
     requires { length tally.now ≡ point_limit }
     ensures { result ≡ every_of (λ v. eqb (get_or tally.now v 0) 2) (specs.chain chain.entry.behind.now chain.entry.highs.now chain.entry.place) }
 {
-    for node in chain {
-        if tally[wide(node)] != 2 {
-            return false;
-        }
-    }
-    true
+    chain.all(|node| is_two(tally, node))
 }
 
 // Zeros again, where the chain has its higher nodes.
@@ -37,7 +38,7 @@ fn clear(chain: Chain, tally: &mut [u16])
     ensures { tally.new ≡ replicate point_limit 0 }
 {
     for node in chain {
-        tally[wide(node)] = 0;
+        tally[usize::from(node)] = 0;
     }
 }
 

@@ -1,24 +1,22 @@
 // The order of a pass: the fronts by length, equal lengths in front order. The Rust's `sort_by`, for at most 16 fronts.
-ghost use Rattle.std.specs.Prelude.{◌≡◌, ℕ, All, ◌*◌, ◌+◌, ◌<◌, ◌≤◌, get_or, length, take};
+ghost use Rattle.std.specs.Prelude.{◌≡◌, ℕ, All, ◌+◌, ◌<◌, ◌≤◌, length, take};
 ghost use Rattle.state.specs.Limits.{front_limit};
-ghost use Rattle.geometry.specs.Domain.{sum_of};
 ghost use Rattle.rules.specs.Passes.{inserted, ordered};
 ghost use Rattle.passes.specs.Order.{length_in, length_of, order_of, put_in};
 
-use geometry::{front_length, wide};
-use state::nodes_of;
+use geometry::front_length;
+use state::Fronts;
 
-// The length of each front, measured once.
-fn lengths_of(points: &[f64], front_nodes: &[u16], sizes: &[u16]) -> [f64; 16]
-    requires sizes_len_bound { (length sizes.now ≤ front_limit) × (sum_of sizes.now ≤ length front_nodes.now) }
-    requires by_index { (i : ℕ) → i < sum_of sizes.now → get_or front_nodes.now i 0 * 2 + 1 < length points.now }
-    ensures { (k : ℕ) → k < length sizes.now → length_in result k ≡ length_of points.now front_nodes.now sizes.now k }
+// The length of each front, measured once. Written by place: after `iter_mut().zip(..)` a proof knows nothing of what was written.
+fn lengths_of(fronts: &Fronts) -> [f64; 16]
+    ensures { (k : ℕ) → k < length fronts.now.lengths.now → length_in result k ≡ length_of fronts.now.points.now fronts.now.nodes.now fronts.now.lengths.now k }
 {
     let mut lengths = [0.0; 16];
+    // `start` is summed by hand: `scan` would keep the same sum inside a closure.
     let mut start = 0;
-    for (i, size) in sizes.iter().enumerate() {
-        let len = wide(*size);
-        lengths[i] = front_length(points, nodes_of(front_nodes, start, len));
+    for (i, len) in fronts.lengths.iter().enumerate() {
+        let len = usize::from(*len);
+        lengths[i] = front_length(&fronts.ring(start, len));
         start += len;
     }
     lengths
@@ -45,7 +43,8 @@ fn put_in(order: &mut [usize], at: usize, i: usize)
     order[at] = i;
 }
 
-// The first `n` fronts by length, each put behind every earlier one that is not longer.
+// The first `n` fronts by length, each put behind every earlier one that is not longer. By hand: they are at most 16, and std's stable
+// sorts take an allocator, where there is no heap.
 fn sorted(lengths: &[f64; 16], n: usize) -> [usize; 16]
     requires { n ≤ front_limit }
     ensures { take n result ≡ ordered (length_in lengths.now) n }
@@ -58,12 +57,10 @@ fn sorted(lengths: &[f64; 16], n: usize) -> [usize; 16]
     order
 }
 
-// The order of a pass, in the first places: `sizes` says how many nodes each front has.
-pub fn pass_order(points: &[f64], front_nodes: &[u16], sizes: &[u16]) -> [usize; 16]
-    requires sizes_len_bound { (length sizes.now ≤ front_limit) × (sum_of sizes.now ≤ length front_nodes.now) }
-    requires by_index { (i : ℕ) → i < sum_of sizes.now → get_or front_nodes.now i 0 * 2 + 1 < length points.now }
-    ensures { take (length sizes.now) result ≡ order_of points.now front_nodes.now sizes.now }
+// The order of a pass, in the first places.
+pub fn pass_order(fronts: &Fronts) -> [usize; 16]
+    ensures { take (length fronts.now.lengths.now) result ≡ order_of fronts.now.points.now fronts.now.nodes.now fronts.now.lengths.now }
 {
-    let lengths = lengths_of(points, front_nodes, sizes);
-    sorted(&lengths, sizes.len())
+    let lengths = lengths_of(fronts);
+    sorted(&lengths, fronts.lengths.len())
 }

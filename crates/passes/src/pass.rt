@@ -1,17 +1,16 @@
 // One pass: the fronts in order, and a row on each.
-ghost use Rattle.std.specs.Prelude.{◌≡◌, ◌*◌, ◌<◌, ◌≤◌, length, take};
-ghost use Rattle.geometry.specs.Domain.{sum_of};
+ghost use Rattle.std.specs.Prelude.{◌≡◌, ◌*◌, ◌<◌, length, take};
 ghost use Rattle.state.specs.State.{reading};
 ghost use Rattle.state.specs.Lent.{Same, held_in};
 ghost use Rattle.state.specs.Refusals.{answered};
 ghost use Rattle.state.specs.Sound.{Clean, Sound, sizes_of};
-ghost use Rattle.input.specs.Job.{job_of};
+ghost use Rattle.input.specs.Job.{accepted_of};
 ghost use Rattle.rules.specs.Passes.{one_pass};
 ghost use Rattle.passes.specs.Order.{order_of};
 ghost use Rattle.passes.specs.Passed.{begun_counts, passed, written_of};
 
 use crate::order::pass_order;
-use input::Job;
+use input::Accepted;
 use row::next_row;
 use state::{Counts, Lent, Refusal};
 
@@ -32,21 +31,18 @@ fn order_on(lent: &Lent, counts: Counts) -> [usize; 16]
     ensures { take (length (sizes_of (held_in lent.now counts))) result
         ≡ order_of (take (counts.points * 2) lent.now.points.now) lent.now.front_nodes.now (sizes_of (held_in lent.now counts)) }
 {
-    pass_order(
-        &lent.points[..counts.points * 2],
-        lent.front_nodes,
-        &lent.front_lengths[..counts.fronts],
-    )
+    let fronts = lent.fronts(counts);
+    pass_order(&fronts)
 }
 
 // A pass on a state whose buffers are sound and clean. The order of its start holds for the whole pass.
-pub fn one_pass(job: &Job, lent: &mut Lent, counts: Counts) -> Result<Counts, Refusal>
+pub fn one_pass(job: &Accepted, lent: &mut Lent, counts: Counts) -> Result<Counts, Refusal>
     requires sound { Sound (held_in lent.old counts) }
     requires clean { Clean (held_in lent.old counts) }
-    requires passes_begun_bound { (counts.passes_begun < 18446744073709551615) × (sum_of job.now.loop_lengths.now * 2 ≤ length job.now.coords.now) }
+    requires passes_begun_bound { counts.passes_begun < 18446744073709551615 }
     ensures same { Same lent.old lent.new }
     ensures passed { passed (answered result) (held_in lent.new counts)
-        ≡ written_of (one_pass (job_of job.now) (reading (held_in lent.old counts))) }
+        ≡ written_of (one_pass (accepted_of job.now) (reading (held_in lent.old counts))) }
 {
     let fronts = counts.fronts;
     let order = order_on(lent, counts);
@@ -55,11 +51,8 @@ pub fn one_pass(job: &Job, lent: &mut Lent, counts: Counts) -> Result<Counts, Re
         let answer = next_row(job, *li, lent, c);
         match answer {
             Ok(after) => c = after,
-            Err(refusal) => {
-                if refusal == Refusal::Full {
-                    return Err(refusal);
-                }
-            }
+            Err(Refusal::Full) => return Err(Refusal::Full),
+            Err(_) => {}
         }
     }
     Ok(c)

@@ -10,7 +10,7 @@ use crate::plates::put_answer;
 use captions::put_words;
 use input::Job;
 use job_text::read_job;
-use state::Lent;
+use state::{Lent, Refusal};
 use text::{Writer, put_zeros};
 
 // The picture of a job.
@@ -22,7 +22,7 @@ fn put_job(w: &mut Writer, job: &Job)
     ensures same { Same w.old w.new }
 {
     if job.coords.len() == 0 {
-        put_words(w, 4);
+        put_words(w, Refusal::OuterLoop.number());
         return;
     }
     let mut points = [0.0f64; 8192];
@@ -49,12 +49,7 @@ fn put_drawing(w: &mut Writer, input: &[u8])
     let mut loop_lengths = [0u16; 16];
     match read_job(input, &mut coords, &mut loop_lengths) {
         Ok(read) => {
-            let job = Job {
-                coords: &coords[..read.pairs * 2],
-                loop_lengths: &loop_lengths[..read.loops],
-                h: read.size,
-                options: input::defaults(),
-            };
+            let job = read.job(&coords, &loop_lengths);
             put_job(w, &job);
         }
         Err(error) => put_words(w, error.number()),
@@ -63,6 +58,7 @@ fn put_drawing(w: &mut Writer, input: &[u8])
 
 // A buffer of fewer than 1,638,400 bytes is left alone, and the result is 0; no picture is that long. Otherwise the picture,
 // zeros behind it, and the picture's length, whatever the buffer held.
+// `pave_text`, `draw_text` and `recheck` differ in their buffer's length and in what writes it; C's names for the first and last need each.
 pub fn draw_text(input: &[u8], out: &mut [u8]) -> usize
     ensures { drawn_in result out.new ≡ draw_call input.now out.old }
 {

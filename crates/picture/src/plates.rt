@@ -1,7 +1,6 @@
 // The picture of a job's answer.
-ghost use Rattle.std.specs.Prelude.{◌≡◌, false, ◌+◌, ◌-◌, ◌*◌, ◌≤◌, length};
+ghost use Rattle.std.specs.Prelude.{false, ◌+◌, ◌/◌, ◌≤◌, length};
 ghost use Rattle.std.specs.Float.{inf};
-ghost use Rattle.geometry.specs.Domain.{sum_of};
 ghost use Rattle.state.specs.State.{quads_of, cut, no_counts};
 ghost use Rattle.state.specs.Call.{left};
 ghost use Rattle.state.specs.Lent.{held_in};
@@ -17,11 +16,11 @@ ghost use Rattle.picture.specs.Plates as pictures;
 ghost use Rattle.picture.specs.Picture.{picture_room};
 
 use captions::{put_done, put_refused};
-use fan_search::Box;
-use frames::{box_of, margin_of, put_caption, put_closing, put_head};
+use frames::{Frame, put_caption, put_closing, put_head};
+use geometry::{FirstPoints, Outline};
 use input::{Job, default_limit};
 use shapes::{put_fronts, put_nodes, put_outline, put_tiles, worst};
-use state::{Counts, Lent, Refusal};
+use state::{Counts, Fronts, Lent, Refusal};
 use text::Writer;
 
 fn put_dots(w: &mut Writer, points: &[f64], laid: usize)
@@ -29,89 +28,63 @@ fn put_dots(w: &mut Writer, points: &[f64], laid: usize)
     ensures put { Wrote w.old (pictures.dots_text points.now laid) w.new }
     ensures same { Same w.old w.new }
 {
-    let n = points.len() / 2;
-    let sampled = n.saturating_sub(laid);
-    put_nodes(w, b'n', points, n);
-    put_nodes(w, b's', points, sampled);
+    let all = FirstPoints::all(points);
+    let sampled = FirstPoints {
+        pts: points,
+        n: all.n.saturating_sub(laid),
+    };
+    put_nodes(w, b'n', &all);
+    put_nodes(w, b's', &sampled);
 }
 
-// The points and the front lengths are those that count, and no more.
-fn put_shapes(
-    w: &mut Writer,
-    coords: &[f64],
-    loops: &[u16],
-    points: &[f64],
-    quads: &[u16],
-    n: usize,
-    nodes: &[u16],
-    lengths: &[u16],
-    laid: usize,
-)
-    requires room { Fits w.old (pictures.shapes_text coords.now loops.now points.now (quads_of n quads.now) (cut lengths.now nodes.now) laid) }
-    requires loops_in_bounds { (sum_of loops.now * 2 ≤ length coords.now) × (n * 4 ≤ length quads.now) × (sum_of lengths.now ≤ length nodes.now) }
-    ensures put { Wrote w.old (pictures.shapes_text coords.now loops.now points.now (quads_of n quads.now) (cut lengths.now nodes.now) laid) w.new }
+fn put_shapes(w: &mut Writer, outline: &Outline, fronts: &Fronts, quads: &[u16], laid: usize)
+    requires { Fits w.old (pictures.shapes_text outline.now.coords.now outline.now.loop_lengths.now fronts.now.points.now (quads_of (length quads.now / 4) quads.now) (cut fronts.now.lengths.now fronts.now.nodes.now) laid) }
+    ensures put { Wrote w.old (pictures.shapes_text outline.now.coords.now outline.now.loop_lengths.now fronts.now.points.now (quads_of (length quads.now / 4) quads.now) (cut fronts.now.lengths.now fronts.now.nodes.now) laid) w.new }
     ensures same { Same w.old w.new }
 {
     let limit = default_limit();
-    put_tiles(w, limit, points, quads, n);
-    put_outline(w, coords, loops);
-    put_fronts(w, points, nodes, lengths);
-    put_dots(w, points, laid);
+    put_tiles(w, limit, fronts.points, quads);
+    put_outline(w, outline);
+    put_fronts(w, fronts.points, fronts.nodes, fronts.lengths);
+    put_dots(w, fronts.points, laid);
 }
 
 fn put_done_words(w: &mut Writer, points: &[f64], quads: &[u16], counts: Counts)
-    requires room { Fits w.old (done_caption counts (worst_of (inf false) points.now (quads_of counts.quads quads.now))) }
-    requires quads_in_bounds { counts.quads * 4 ≤ length quads.now }
-    ensures put { Wrote w.old (done_caption counts (worst_of (inf false) points.now (quads_of counts.quads quads.now))) w.new }
+    requires { Fits w.old (done_caption counts (worst_of (inf false) points.now (quads_of (length quads.now / 4) quads.now))) }
+    ensures put { Wrote w.old (done_caption counts (worst_of (inf false) points.now (quads_of (length quads.now / 4) quads.now))) w.new }
     ensures same { Same w.old w.new }
 {
-    let least = worst(points, quads, counts.quads);
+    let least = worst(points, quads);
     put_done(w, counts, least);
 }
 
 fn put_paved(
     w: &mut Writer,
-    b: Box,
-    m: f64,
-    coords: &[f64],
-    loops: &[u16],
-    points: &[f64],
+    frame: Frame,
+    outline: &Outline,
+    fronts: &Fronts,
     quads: &[u16],
-    nodes: &[u16],
-    lengths: &[u16],
     counts: Counts,
 )
-    requires room { Fits w.old (pictures.paved_text (boxed b) m coords.now loops.now points.now (quads_of counts.quads quads.now) (cut lengths.now nodes.now) counts) }
-    requires loops_in_bounds { (sum_of loops.now * 2 ≤ length coords.now) × (counts.quads * 4 ≤ length quads.now) × (sum_of lengths.now ≤ length nodes.now) }
-    ensures put { Wrote w.old (pictures.paved_text (boxed b) m coords.now loops.now points.now (quads_of counts.quads quads.now) (cut lengths.now nodes.now) counts) w.new }
+    requires { Fits w.old (pictures.paved_text (boxed frame.bounds) frame.margin outline.now.coords.now outline.now.loop_lengths.now fronts.now.points.now (quads_of (length quads.now / 4) quads.now) (cut fronts.now.lengths.now fronts.now.nodes.now) counts) }
+    ensures put { Wrote w.old (pictures.paved_text (boxed frame.bounds) frame.margin outline.now.coords.now outline.now.loop_lengths.now fronts.now.points.now (quads_of (length quads.now / 4) quads.now) (cut fronts.now.lengths.now fronts.now.nodes.now) counts) w.new }
     ensures same { Same w.old w.new }
 {
-    put_head(w, b, m);
-    put_shapes(
-        w,
-        coords,
-        loops,
-        points,
-        quads,
-        counts.quads,
-        nodes,
-        lengths,
-        counts.laid,
-    );
-    put_caption(w, b, m);
-    put_done_words(w, points, quads, counts);
+    put_head(w, frame);
+    put_shapes(w, outline, fronts, quads, counts.laid);
+    put_caption(w, frame);
+    put_done_words(w, fronts.points, quads, counts);
     put_closing(w);
 }
 
-fn put_outlined(w: &mut Writer, b: Box, m: f64, coords: &[f64], loops: &[u16], n: u32)
-    requires room { Fits w.old (pictures.framed_text (boxed b) m (outline_text coords.now loops.now) (refused_caption n)) }
-    requires loops_in_bounds { sum_of loops.now * 2 ≤ length coords.now }
-    ensures put { Wrote w.old (pictures.framed_text (boxed b) m (outline_text coords.now loops.now) (refused_caption n)) w.new }
+fn put_outlined(w: &mut Writer, frame: Frame, outline: &Outline, n: u32)
+    requires { Fits w.old (pictures.framed_text (boxed frame.bounds) frame.margin (outline_text outline.now.coords.now outline.now.loop_lengths.now) (refused_caption n)) }
+    ensures put { Wrote w.old (pictures.framed_text (boxed frame.bounds) frame.margin (outline_text outline.now.coords.now outline.now.loop_lengths.now) (refused_caption n)) w.new }
     ensures same { Same w.old w.new }
 {
-    put_head(w, b, m);
-    put_outline(w, coords, loops);
-    put_caption(w, b, m);
+    put_head(w, frame);
+    put_outline(w, outline);
+    put_caption(w, frame);
     put_refused(w, n);
     put_closing(w);
 }
@@ -125,20 +98,14 @@ fn put_plate(w: &mut Writer, job: &Job, lent: &Lent, counts: Counts)
     ensures upper_bound { w.new.at ≤ w.old.at + picture_room }
     ensures same { Same w.old w.new }
 {
-    let b = box_of(job.coords);
-    let m = margin_of(b, job.h);
-    put_paved(
-        w,
-        b,
-        m,
-        job.coords,
-        job.loop_lengths,
-        &lent.points[..counts.points * 2],
-        lent.quads,
-        lent.front_nodes,
-        &lent.front_lengths[..counts.fronts],
-        counts,
-    );
+    let frame = Frame::around(job.coords, job.h);
+    let outline = Outline {
+        coords: job.coords,
+        loop_lengths: job.loop_lengths,
+    };
+    let fronts = lent.fronts(counts);
+    let quads = &lent.quads[..counts.quads * 4];
+    put_paved(w, frame, &outline, &fronts, quads, counts);
 }
 
 // The picture of an outline that is refused.
@@ -149,9 +116,12 @@ fn put_refusal(w: &mut Writer, job: &Job, n: u32)
     ensures upper_bound { w.new.at ≤ w.old.at + picture_room }
     ensures same { Same w.old w.new }
 {
-    let b = box_of(job.coords);
-    let m = margin_of(b, job.h);
-    put_outlined(w, b, m, job.coords, job.loop_lengths, n);
+    let frame = Frame::around(job.coords, job.h);
+    let outline = Outline {
+        coords: job.coords,
+        loop_lengths: job.loop_lengths,
+    };
+    put_outlined(w, frame, &outline, n);
 }
 
 pub fn put_answer(w: &mut Writer, job: &Job, answer: Result<Counts, Refusal>, lent: &Lent)

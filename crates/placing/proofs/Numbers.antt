@@ -1,18 +1,20 @@
 -- The numbers 7, 10, 8 and 9 of a loop, and which side gets one more inner point.
-use mathlib.Core.Path.{◌≡◌, refl, ap}
+use mathlib.Core.Path.{◌≡◌, refl, sym, ap}
 use mathlib.Core.Bool.{Bool, true, false, cond, ◌&&◌}
 use mathlib.Core.List.{List, [], ◌∷◌}
 use Prim.Native.Nat.{ℕ, ◌+◌, ◌*◌, ◌/◌, ◌%◌, ◌≤◌, ◌<◌, min}
 use native.Mathlib.Omega.{arith}
 use lib.Dec.{eqb, ltb}
 use lib.Ieee.{Float}
-use borrow.Author.Tests.{lt-ltb, le-ltb, eq-eqb, ne_eqb}
+use borrow.Author.Tests.{lt-ltb, le-ltb, eq-eqb, eqb-false, eqb-true, ne_eqb}
 use Rattle.geometry.specs.Rings.{Ring}
 use Rattle.state.specs.Limits.{front_node_limit}
 use Rattle.state.specs.Outcome.{Outcome, refused, gives, first_true, test, outcome}
 use Rattle.planning.specs.Ring.{loop_ring}
 use Rattle.planning.specs.Plan.{inner, inner_sum, longest, total, planned, parts}
-use Rattle.std.specs.Prelude.{Result}
+use Rattle.std.specs.Prelude.{Result, Option, Some}
+use Rattle.std.specs.Bool.{then_some}
+use Rattle.std.specs.Option.{option_eq}
 use Rattle.state.specs.declared.refusal.Refusal.{Refusal}
 use Rattle.placing.specs.declared.one_loop.LoopNodes.{LoopNodes}
 use Rattle.placing.specs.Loop.{sample_loop}
@@ -46,6 +48,13 @@ module _ {A : Type 0} (x l : ℕ) (out : A) where
 
 -- ---- the plan
 
+eqb_turned : (i k : ℕ) → eqb i k ≡ eqb k i
+eqb_turned i k = go (eqb i k) refl
+  where
+    go : (b : Bool) → eqb i k ≡ b → eqb i k ≡ eqb k i
+    go true e = rw (eqb-true i k e)
+    go false e = rw (e, ne_eqb k i (λ (q : k ≡ i). eqb-false i k e (sym q)))
+
 module _ (h corner_margin : Float) (r : Ring) where
   -- the capped sum refuses just what the sum refuses, and is the sum when it does not
   pub over : (before t : ℕ) → t ≡ r.size + min (inner_sum h corner_margin r r.size) 2049 → front_node_limit < before + (t + t % 2) → front_node_limit < before + planned h corner_margin r
@@ -62,17 +71,14 @@ module _ (h corner_margin : Float) (r : Ring) where
       go : (b t n s : ℕ) → t ≡ n + min s 2049 → b + (t + t % 2) ≤ front_node_limit → t ≡ n + s
       go b t n s e g = omega arith
 
-  added_to : (b : Bool) (i k n : ℕ) → i < n → ◌≡◌ {A = ℕ} (cond (b && eqb i k) 1 0) (cond (eqb i (cond b k n)) 1 0)
-  added_to true i k n h = refl
-  added_to false i k n h = rw (ne_eqb i n (λ (e : i ≡ n). clash i n h e))
-    where
-      clash : (i n : ℕ) → i < n → i ≡ n → ⊥
-      clash i n h e = omega arith
+  added_to : (b : Bool) (i k : ℕ) → ◌≡◌ {A = ℕ} (cond (b && eqb i k) 1 0) (cond (option_eq eqb (then_some b k) (Some i)) 1 0)
+  added_to true i k = rw (eqb_turned i k)
+  added_to false i k = refl
 
-  pub parts_are : (t best longer : ℕ) → t ≡ total h corner_margin r → best ≡ (longest h corner_margin r r.size).0 → longer ≡ cond (eqb (t % 2) 1) best r.size
-      → (i : ℕ) → i < r.size → parts h corner_margin r i ≡ inner h corner_margin r i + cond (eqb i longer) 1 0
+  pub parts_are : (t best : ℕ) (longer : Option ℕ) → t ≡ total h corner_margin r → best ≡ (longest h corner_margin r r.size).0 → longer ≡ then_some (eqb (t % 2) 1) best
+      → (i : ℕ) → parts h corner_margin r i ≡ inner h corner_margin r i + cond (option_eq eqb longer (Some i)) 1 0
   unfolding parts
-  parts_are t best longer ht hb hl i g = rw (← ht, ← hb, hl) (ap (λ (n : ℕ). inner h corner_margin r i + n) (added_to (eqb (t % 2) 1) i best r.size g))
+  parts_are t best longer ht hb hl i = rw (← ht, ← hb, hl) (ap (λ (n : ℕ). inner h corner_margin r i + n) (added_to (eqb (t % 2) 1) i best))
 
 -- ---- the loop
 

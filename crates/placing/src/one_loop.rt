@@ -1,15 +1,16 @@
 // One loop sampled, with the numbers 7, 10, 8 and 9 in this order.
-ghost use Rattle.std.specs.Prelude.{◌≡◌, cond, ◌+◌, ◌*◌, ◌≤◌, ◌<◌, eqb};
+ghost use Rattle.std.specs.Prelude.{◌≡◌, ◌*◌, ◌≤◌, ◌<◌};
 ghost use Rattle.std.proofs.Math.ListN as lists;
 ghost use Rattle.geometry.specs.Rings.{Ring, ring_of};
 ghost use Rattle.state.specs.Limits.{front_node_limit};
 ghost use Rattle.planning.specs.Ring as rings;
-ghost use Rattle.planning.specs.Backwards.{turned_if};
+ghost use Rattle.planning.specs.Backwards.{read_ring};
 ghost use Rattle.placing.specs.Loop as loops;
 ghost use Rattle.placing.specs.Placing.{MadeIs, placed_outcome};
 
 use crate::place::place;
-use planning::{all_apart, keep_points, kept_ring, plan_sides};
+use geometry::FirstPoints;
+use planning::{LoopRing, Spacing, all_apart, keep_points, kept_ring, plan_sides};
 use state::Refusal;
 
 // How many nodes of a loop were planned, and how many placed.
@@ -19,54 +20,31 @@ pub struct LoopNodes {
     pub placed: usize,
 }
 
-// The side that gets one more inner point; `n`, which is no side, if the nodes are even in number.
-fn longer_side(odd: usize, longest: usize, n: usize) -> usize
-    ensures { result ≡ cond (eqb odd 1) longest n }
-{
-    if odd == 1 {
-        return longest;
-    }
-    n
-}
-
-// Plans the ring of the first `n` points and writes its nodes from place `at` on.
+// Plans a ring and writes its nodes from place `at` on.
 fn plan_and_place(
-    pts: &[f64],
-    n: usize,
-    back: bool,
-    h: f64,
-    corner_margin: f64,
+    ring: LoopRing<'_>,
+    spacing: Spacing,
     before: usize,
     lengths: &mut [f64],
     spans: &mut [f64],
     points: &mut [f64],
     at: usize,
 ) -> Result<LoopNodes, Refusal>
-    requires n_bound { (n * 2 ≤ lists.length pts.now) × (0 < n) × (n ≤ front_node_limit) × (n ≤ lists.length lengths.old) × (n ≤ lists.length spans.old) }
+    requires n_bound { (0 < ring.n) × (ring.n ≤ front_node_limit) × (ring.n ≤ lists.length lengths.old) × (ring.n ≤ lists.length spans.old) }
     requires at_le_before { (at ≤ before) × (before ≤ front_node_limit) × (front_node_limit * 2 ≤ lists.length points.old) }
-    ensures { MadeIs h corner_margin (turned_if back (ring_of pts.now n)) before at points.old points.new
-        (placed_outcome h corner_margin before (turned_if back (ring_of pts.now n))) result }
+    ensures { MadeIs spacing.h spacing.corner_margin (read_ring ring.entry) before at points.old points.new
+        (placed_outcome spacing.h spacing.corner_margin before (read_ring ring.entry)) result }
 {
-    let p = plan_sides(pts, n, back, h, corner_margin, lengths, spans);
+    let p = plan_sides(ring, spacing, lengths, spans);
     let total = p.total;
     let odd = total % 2;
     let planned = total + odd;
     if 2048 < before + planned {
         return Err(Refusal::ManyNodes);
     }
-    let longer = longer_side(odd, p.longest, n);
-    let placed = place(
-        pts,
-        n,
-        back,
-        h,
-        corner_margin,
-        lengths,
-        spans,
-        longer,
-        points,
-        at,
-    );
+    // the side that gets one more inner point
+    let longer = (odd == 1).then_some(p.longest);
+    let placed = place(ring, spacing, lengths, spans, longer, points, at);
     if placed < 4 {
         return Err(Refusal::FewNodes);
     }
@@ -79,49 +57,34 @@ fn plan_and_place(
 // Samples any loop of which these points are kept and writes its nodes from place `at` on.
 fn sample_kept(
     pts: &[f64],
-    kept: usize,
     ccw: bool,
-    h: f64,
-    corner_margin: f64,
+    spacing: Spacing,
     before: usize,
     lengths: &mut [f64],
     spans: &mut [f64],
     points: &mut [f64],
     at: usize,
 ) -> Result<LoopNodes, Refusal>
-    requires kept_value { (kept * 2 ≡ lists.length pts.now) × (kept ≤ front_node_limit) × (kept ≤ lists.length lengths.old) × (kept ≤ lists.length spans.old) }
+    requires few { (lists.length pts.now ≤ front_node_limit * 2) × (lists.length pts.now ≤ lists.length lengths.old * 2) × (lists.length pts.now ≤ lists.length spans.old * 2) }
     requires at_le_before { (at ≤ before) × (before ≤ front_node_limit) × (front_node_limit * 2 ≤ lists.length points.old) }
     ensures { (given : Ring) → pts.now ≡ rings.kept given given.size
-        → MadeIs h corner_margin (rings.loop_ring ccw given) before at points.old points.new (loops.sample_loop h corner_margin before ccw given) result }
+        → MadeIs spacing.h spacing.corner_margin (rings.loop_ring ccw given) before at points.old points.new (loops.sample_loop spacing.h spacing.corner_margin before ccw given) result }
 {
-    let ring = kept_ring(pts, kept, ccw);
-    let size = ring.size;
-    if size < 3 {
+    let ring = kept_ring(pts, ccw);
+    if ring.n < 3 {
         return Err(Refusal::FewPoints);
     }
-    let back = ring.back;
-    plan_and_place(
-        pts,
-        size,
-        back,
-        h,
-        corner_margin,
-        before,
-        lengths,
-        spans,
-        points,
-        at,
-    )
+    plan_and_place(ring, spacing, before, lengths, spans, points, at)
 }
 
-// Samples the loop of the first `n` points, where `before` nodes were planned for the loops before, and writes its
-// nodes from place `at` on. `buffer`, `lengths` and `spans` are for the work; a loop that keeps all its points needs no copy.
+// Samples a loop, where `before` nodes were planned for the loops before, and writes its nodes from place `at` on. `buffer`,
+// `lengths` and `spans` are for the work; a loop that keeps all its points needs no copy. Tried as one `&mut Work`: the borrow
+// checker covers fields that are all lent to be written, but not `&work.buffer[..end]`, which is read, beside `work.lengths`, nor
+// such a part of a field that a pattern took out.
 pub fn sample_loop(
-    coords: &[f64],
-    n: usize,
+    given: &FirstPoints<'_>,
     ccw: bool,
-    h: f64,
-    corner_margin: f64,
+    spacing: Spacing,
     before: usize,
     buffer: &mut [f64],
     lengths: &mut [f64],
@@ -129,19 +92,17 @@ pub fn sample_loop(
     points: &mut [f64],
     at: usize,
 ) -> Result<LoopNodes, Refusal>
-    requires n_bound { (n * 2 ≤ lists.length coords.now) × (n ≤ front_node_limit) × (n * 2 ≤ lists.length buffer.old) × (n ≤ lists.length lengths.old) × (n ≤ lists.length spans.old) }
+    requires n_bound { (given.now.n ≤ front_node_limit) × (given.now.n * 2 ≤ lists.length buffer.old) × (given.now.n ≤ lists.length lengths.old) × (given.now.n ≤ lists.length spans.old) }
     requires at_le_before { (at ≤ before) × (before ≤ front_node_limit) × (front_node_limit * 2 ≤ lists.length points.old) }
-    ensures { MadeIs h corner_margin (rings.loop_ring ccw (ring_of coords.now n)) before at points.old points.new
-        (loops.sample_loop h corner_margin before ccw (ring_of coords.now n)) result }
+    ensures { MadeIs spacing.h spacing.corner_margin (rings.loop_ring ccw (ring_of given.now.pts.now given.now.n)) before at points.old points.new
+        (loops.sample_loop spacing.h spacing.corner_margin before ccw (ring_of given.now.pts.now given.now.n)) result }
 {
-    if all_apart(coords, n) {
-        let end = n * 2;
+    if all_apart(given) {
+        let end = given.n * 2;
         return sample_kept(
-            &coords[..end],
-            n,
+            &given.pts[..end],
             ccw,
-            h,
-            corner_margin,
+            spacing,
             before,
             lengths,
             spans,
@@ -149,14 +110,12 @@ pub fn sample_loop(
             at,
         );
     }
-    let kept = keep_points(coords, n, buffer);
+    let kept = keep_points(given, buffer);
     let end = kept * 2;
     sample_kept(
         &buffer[..end],
-        kept,
         ccw,
-        h,
-        corner_margin,
+        spacing,
         before,
         lengths,
         spans,

@@ -1,23 +1,25 @@
-// The nodes of a planned loop, written behind those of the loops before.
-ghost use Rattle.std.specs.Prelude.{◌≡◌, cond, ◌∷◌, ℕ, ◌+◌, ◌*◌, ◌≤◌, ◌<◌, eqb, pos};
+// The nodes of a planned loop, written behind those of the loops before. The place `at` stands beside `points`, and not in a part of
+// it that is cut off: node numbers count from the front of `points`.
+ghost use Rattle.std.specs.Prelude.{◌≡◌, Some, cond, ◌∷◌, ℕ, ◌+◌, ◌*◌, ◌≤◌, ◌<◌, eqb, pos};
+ghost use Rattle.std.specs.Option.{option_eq};
 ghost use Rattle.std.specs.Float.{binary64, nan};
 ghost use Rattle.std.specs.Float.Ieee.{of_int};
 ghost use Rattle.std.proofs.Math.ListN as lists;
 ghost use Rattle.std.proofs.lemmas.List.Edits.{sets};
-ghost use Rattle.geometry.specs.Rings.{ring_of};
 ghost use Rattle.state.specs.Limits.{front_node_limit};
 ghost use Rattle.planning.specs.Plan as plans;
-ghost use Rattle.planning.specs.Backwards.{read_ring, turned_if};
+ghost use Rattle.planning.specs.Backwards.{read_ring};
 ghost use Rattle.placing.specs.Placed as laid;
 ghost use Rattle.placing.specs.Placing.{between, betweens};
 
-use geometry::Point;
-use planning::{LoopRing, inner_of, margin_at};
+use geometry::{Point, Ring};
+use planning::{LoopRing, Spacing, inner_of, margin_at};
 
 fn whole(n: usize) -> f64
     requires { n < 4096 }
     ensures { result ≡ of_int binary64 (pos n) }
 {
+    // as: below 4096, so the error of try_from could not occur; Rust has no From between usize and f64
     f64::from(n as u32)
 }
 
@@ -54,80 +56,74 @@ fn place_inner(
 }
 
 // The inner points of side `i`, one more if it is the side `longer`.
-fn parts_of(inner: usize, i: usize, longer: usize) -> usize
+fn parts_of(inner: usize, i: usize, longer: Option<usize>) -> usize
     requires { inner < 4096 }
-    ensures { result ≡ inner + cond (eqb i longer) 1 0 }
+    ensures { result ≡ inner + cond (option_eq eqb longer (Some i)) 1 0 }
 {
-    inner + usize::from(i == longer)
+    inner + usize::from(longer == Some(i))
 }
 
 // Writes the start of the side from place `i` and its inner points, from place `at` on; a side of length at most
 // 1e-12 gets no inner points. Answers how many nodes are written.
 fn place_side(
     ring: LoopRing<'_>,
-    h: f64,
-    corner_margin: f64,
+    spacing: Spacing,
     i: usize,
     length: f64,
     span: f64,
-    longer: usize,
+    longer: Option<usize>,
     points: &mut [f64],
     at: usize,
 ) -> usize
-    requires n_bound { (i < ring.n) × (length ≡ plans.side_at (read_ring ring) i) × (span ≡ plans.span h corner_margin (read_ring ring) i) }
-    requires i_value { plans.parts h corner_margin (read_ring ring) i ≡ plans.inner h corner_margin (read_ring ring) i + cond (eqb i longer) 1 0 }
-    requires i_bound { (at + 1 + plans.parts h corner_margin (read_ring ring) i ≤ front_node_limit) × (front_node_limit * 2 ≤ lists.length points.old) }
-    ensures { (result ≡ laid.placed_on h corner_margin (read_ring ring.entry) i + 1)
+    requires n_bound { (i < ring.n) × (length ≡ plans.side_at (read_ring ring) i) × (span ≡ plans.span spacing.h spacing.corner_margin (read_ring ring) i) }
+    requires i_value { plans.parts spacing.h spacing.corner_margin (read_ring ring) i ≡ plans.inner spacing.h spacing.corner_margin (read_ring ring) i + cond (option_eq eqb longer (Some i)) 1 0 }
+    requires i_bound { (at + 1 + plans.parts spacing.h spacing.corner_margin (read_ring ring) i ≤ front_node_limit) × (front_node_limit * 2 ≤ lists.length points.old) }
+    ensures { (result ≡ laid.placed_on spacing.h spacing.corner_margin (read_ring ring.entry) i + 1)
         × (points.new ≡ sets points.old (at * 2)
         (((read_ring ring.entry).at i).x ∷ ((read_ring ring.entry).at i).y
-        ∷ laid.inner_points h corner_margin (read_ring ring.entry) i
-        (plans.parts h corner_margin (read_ring ring.entry) i)
-        (laid.placed_on h corner_margin (read_ring ring.entry) i))) }
+        ∷ laid.inner_points spacing.h spacing.corner_margin (read_ring ring.entry) i
+        (plans.parts spacing.h spacing.corner_margin (read_ring ring.entry) i)
+        (laid.placed_on spacing.h spacing.corner_margin (read_ring ring.entry) i))) }
 {
-    let a = ring.point(i);
+    let a = ring.at(i);
     geometry::put_point(points, at, a.x, a.y);
     if length <= 1e-12 {
         return 1;
     }
-    let k = parts_of(inner_of(span, h), i, longer);
+    let k = parts_of(inner_of(span, spacing.h), i, longer);
     if k == 0 {
         return 1;
     }
-    let b = ring.point(geometry::next_of(ring.n, i));
-    let margin = margin_at(ring, h, corner_margin, i);
+    let b = ring.at(geometry::next_of(ring.n, i));
+    let margin = margin_at(ring, spacing, i);
     place_inner(a, b, length, margin, span, k, points, at + 1);
     k + 1
 }
 
 // Writes the loop's nodes from place `at` on, with one more inner point on the side `longer`; answers how many.
 pub fn place(
-    pts: &[f64],
-    n: usize,
-    back: bool,
-    h: f64,
-    corner_margin: f64,
+    ring: LoopRing<'_>,
+    spacing: Spacing,
     lengths: &[f64],
     spans: &[f64],
-    longer: usize,
+    longer: Option<usize>,
     points: &mut [f64],
     at: usize,
 ) -> usize
-    requires n_bound { (n * 2 ≤ lists.length pts.now) × (n ≤ lists.length lengths.now) × (n ≤ lists.length spans.now) }
-    requires by_index { (i : ℕ) → i < n → lists.get_or lengths.now i nan ≡ plans.side_at (turned_if back (ring_of pts.now n)) i }
-    requires by_index_2 { (i : ℕ) → i < n → lists.get_or spans.now i nan ≡ plans.span h corner_margin (turned_if back (ring_of pts.now n)) i }
-    requires by_index_3 { (i : ℕ) → i < n → plans.parts h corner_margin (turned_if back (ring_of pts.now n)) i ≡ plans.inner h corner_margin (turned_if back (ring_of pts.now n)) i + cond (eqb i longer) 1 0 }
-    requires n_bound_2 { (at + plans.planned h corner_margin (turned_if back (ring_of pts.now n)) ≤ front_node_limit) × (front_node_limit * 2 ≤ lists.length points.old) }
-    ensures { (result * 2 ≡ lists.length (laid.placed h corner_margin (turned_if back (ring_of pts.now n)) n))
-        × (result ≤ plans.planned h corner_margin (turned_if back (ring_of pts.now n)))
-        × (points.new ≡ sets points.old (at * 2) (laid.placed h corner_margin (turned_if back (ring_of pts.now n)) n)) }
+    requires n_bound { (ring.n ≤ lists.length lengths.now) × (ring.n ≤ lists.length spans.now) }
+    requires by_index { (i : ℕ) → i < ring.n → lists.get_or lengths.now i nan ≡ plans.side_at (read_ring ring) i }
+    requires by_index_2 { (i : ℕ) → i < ring.n → lists.get_or spans.now i nan ≡ plans.span spacing.h spacing.corner_margin (read_ring ring) i }
+    requires by_index_3 { (i : ℕ) → i < ring.n → plans.parts spacing.h spacing.corner_margin (read_ring ring) i ≡ plans.inner spacing.h spacing.corner_margin (read_ring ring) i + cond (option_eq eqb longer (Some i)) 1 0 }
+    requires n_bound_2 { (at + plans.planned spacing.h spacing.corner_margin (read_ring ring) ≤ front_node_limit) × (front_node_limit * 2 ≤ lists.length points.old) }
+    ensures { (result * 2 ≡ lists.length (laid.placed spacing.h spacing.corner_margin (read_ring ring.entry) ring.entry.n))
+        × (result ≤ plans.planned spacing.h spacing.corner_margin (read_ring ring.entry))
+        × (points.new ≡ sets points.old (at * 2) (laid.placed spacing.h spacing.corner_margin (read_ring ring.entry) ring.entry.n)) }
 {
-    let ring = LoopRing { pts, n, back };
     let mut placed = 0;
-    for i in 0..n {
+    for i in 0..ring.n {
         placed += place_side(
             ring,
-            h,
-            corner_margin,
+            spacing,
             i,
             lengths[i],
             spans[i],

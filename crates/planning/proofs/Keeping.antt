@@ -1,8 +1,9 @@
 -- The points kept so far, in a buffer that begins with them; and popping.
 use mathlib.Core.Path.{◌≡◌, refl, sym, ap, ◌∙◌}
-use mathlib.Core.Bool.{Bool, true, false, cond, ◌&&◌}
+use mathlib.Core.Bool.{Bool, true, false, not, cond, ◌&&◌}
 use mathlib.Core.List.{List, [], ◌∷◌, ◌++◌}
 use Prim.Native.Nat.{ℕ, zero, suc, ◌+◌, ◌-◌, ◌*◌, ◌/◌, ◌≤◌, ◌<◌}
+use native.Mathlib.Nat.{zero-add}
 use native.Mathlib.Numerals.{add-one, sub-one}
 use native.Mathlib.Omega.{arith}
 use lib.ListN.{length, get_or, set, length-append}
@@ -10,8 +11,12 @@ use lib.Dec.{ltb}
 use lib.Seq.{sets}
 use lib.Ieee.{Float, nan}
 use borrow.Author.Tests.{lt-ltb}
+use Rattle.std.specs.List.{list_all, range_with_len}
+use Rattle.std.proofs.lemmas.Bool.{not-true}
+use Rattle.std.proofs.lemmas.List.FromFn.{get_or-range_with_len, length-range_with_len}
+use Rattle.std.proofs.lemmas.List.Sums.{AllPass-from_list_all}
 use Rattle.geometry.specs.declared.Point.{Point}
-use Rattle.geometry.specs.Rings.{Ring, point_at}
+use Rattle.geometry.specs.Rings.{Ring, point_at, ring_of}
 use Rattle.planning.specs.Ring.{close, kept, unclosed}
 use Rattle.planning.specs.Kept.{close_to_last}
 use Rattle.state.proofs.Stores.{front_at, point-behind, set_back}
@@ -62,6 +67,22 @@ apart_step r d k p b l e fits hp hd hb f =
   where
     same : (d : List Float) (k : ℕ) → set (set d (k * 2) (get_or d (k * 2) nan)) (k * 2 + 1) (get_or d (k * 2 + 1) nan) ≡ d
     same d k = rw (set_back d (k * 2) nan) (set_back d (k * 2 + 1) nan)
+
+abbrev pub apart : List Float → ℕ → Bool
+apart d k = not (close_to_last d k (point_at d k))
+
+pub all_kept : (d : List Float) (n : ℕ) → n * 2 ≤ length d → list_all (apart d) (range_with_len 0 n) ≡ true
+    → (k : ℕ) → k ≤ n → (k * 2 ≡ length (kept (ring_of d n) k)) × (d ≡ sets d 0 (kept (ring_of d n) k))
+unfolding kept
+all_kept d n fits e zero h = (refl, refl)
+all_kept d n fits e (suc k) h =
+    let before = all_kept d n fits e k (omega arith) in
+    let g : k < length (range_with_len 0 n) = rw length-range_with_len (omega arith) in
+    let at-k : apart d (get_or (range_with_len 0 n) k 0) ≡ true = AllPass-from_list_all (apart d) (range_with_len 0 n) e k 0 g in
+    let t : apart d k ≡ true = rw (get_or-range_with_len 0 n k 0 (omega arith), zero-add) at at-k in
+    let s = apart_step (ring_of d n) d k (point_at d k) (close_to_last d k (point_at d k)) before.0 before.1 (omega arith) refl refl refl (not-true _ t) in
+    let more = rw (add-one k) at s in
+    (more.0, more.1)
 
 -- ---- popping
 

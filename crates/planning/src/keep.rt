@@ -7,7 +7,7 @@ ghost use Rattle.geometry.specs.Rings.{ring_of};
 ghost use Rattle.planning.specs.Ring as rings;
 ghost use Rattle.planning.specs.Kept.{close_to_last};
 
-use geometry::Point;
+use geometry::{FirstPoints, Point, Ring};
 
 // A magnitude below 1e-12, tested on either side.
 fn tiny(d: f64) -> bool
@@ -23,7 +23,8 @@ fn close(a: Point, b: Point) -> bool
     tiny(a.x - b.x) && tiny(a.y - b.y)
 }
 
-// Whether `p` is close to the last of the `m` points kept.
+// Whether `p` is close to the last of the `m` points kept. The buffer and its count are no struct: `keep_points` writes to the buffer
+// and `all_apart` only reads, and one struct cannot lend both ways.
 fn close_to_last(kept: &[f64], m: usize, p: Point) -> bool
     requires { m * 2 ≤ length kept.now }
     ensures { result ≡ close_to_last kept.now m p }
@@ -44,39 +45,32 @@ fn keep_point(kept: &mut [f64], m: usize, p: Point) -> usize
     m + 1
 }
 
-// Keeps the first `n` points, without those close to the last kept; answers how many are kept.
-pub fn keep_points(coords: &[f64], n: usize, kept: &mut [f64]) -> usize
-    requires { (n * 2 ≤ length coords.now) × (n * 2 ≤ length kept.old) }
-    ensures { (result ≤ n) × (result * 2 ≡ length (rings.kept (ring_of coords.now n) n)) × (kept.new ≡ sets kept.old 0 (rings.kept (ring_of coords.now n) n)) }
+// Keeps a loop's points, without those close to the last kept; answers how many are kept.
+pub fn keep_points(given: &FirstPoints<'_>, kept: &mut [f64]) -> usize
+    requires { given.now.n * 2 ≤ length kept.old }
+    ensures { (result ≤ given.now.n) × (result * 2 ≡ length (rings.kept (ring_of given.now.pts.now given.now.n) given.now.n)) × (kept.new ≡ sets kept.old 0 (rings.kept (ring_of given.now.pts.now given.now.n) given.now.n)) }
 {
     let mut m = 0usize;
-    for k in 0..n {
-        m = keep_point(kept, m, geometry::point_at(coords, k));
+    for k in 0..given.n {
+        m = keep_point(kept, m, given.at(k));
     }
     m
 }
 
-// Whether no point of the first `n` is close to the one before, so that all are kept.
-pub fn all_apart(coords: &[f64], n: usize) -> bool
-    requires { n * 2 ≤ length coords.now }
-    ensures { result ≡ true → take (n * 2) coords.now ≡ rings.kept (ring_of coords.now n) n }
+// Whether no point of a loop is close to the one before, so that all are kept.
+pub fn all_apart(given: &FirstPoints<'_>) -> bool
+    ensures { result ≡ true → take (given.now.n * 2) given.now.pts.now ≡ rings.kept (ring_of given.now.pts.now given.now.n) given.now.n }
 {
-    for k in 0..n {
-        if close_to_last(coords, k, geometry::point_at(coords, k)) {
-            return false;
-        }
-    }
-    true
+    (0..given.n).all(|k| !close_to_last(given.pts, k, given.at(k)))
 }
 
-// How many of the first `n` points are left when last points close to the first are popped.
-pub fn unclosed(kept: &[f64], n: usize) -> usize
-    requires { n * 2 ≤ length kept.now }
-    ensures { (result ≡ rings.unclosed kept.now n) × (result ≤ n) }
+// How many of the points kept are left when last points close to the first are popped.
+pub fn unclosed(kept: &FirstPoints<'_>) -> usize
+    ensures { (result ≡ rings.unclosed kept.now.pts.now kept.now.n) × (result ≤ kept.now.n) }
 {
-    let mut m = n;
+    let mut m = kept.n;
     // from the end, until one stays: no index goes over the points
-    while 1 < m && close(geometry::point_at(kept, 0), geometry::point_at(kept, m - 1)) {
+    while 1 < m && close(kept.at(0), kept.at(m - 1)) {
         m -= 1;
     }
     m

@@ -6,9 +6,11 @@ mod loop_ring;
 mod plan;
 mod ring;
 mod sides;
+mod spacing;
 
 pub use keep::{all_apart, keep_points};
 pub use loop_ring::LoopRing;
 pub use plan::{Plan, inner_of, plan_sides};
-pub use ring::{Turned, kept_ring};
+pub use ring::kept_ring;
 pub use sides::margin_at;
+pub use spacing::Spacing;

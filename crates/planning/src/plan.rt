@@ -1,17 +1,18 @@
 // The plan of a loop: how many inner points each side gets.
-ghost use Rattle.std.specs.Prelude.{◌≡◌, cond, ◌&&◌, ℕ, ◌+◌, ◌*◌, ◌≤◌, ◌<◌, max, min, eqb, Float, get_or, length};
+ghost use Rattle.std.specs.Prelude.{◌≡◌, cond, ◌&&◌, ℕ, ◌+◌, ◌≤◌, ◌<◌, max, min, eqb, Float, get_or, length};
 ghost use Rattle.std.specs.Float.Ieee.{lt};
 ghost use Rattle.std.specs.Float.{nan};
 ghost use Rattle.float.specs.Helpers.{decimal, greater, round_away};
 ghost use Rattle.geometry.specs.F64.{◌⊖◌, ◌⊗◌, ◌⊘◌};
-ghost use Rattle.geometry.specs.Rings.{Ring, ring_of};
+ghost use Rattle.geometry.specs.Rings.{Ring};
 ghost use Rattle.state.specs.Limits.{front_node_limit};
 ghost use Rattle.planning.specs.Plan as plans;
-ghost use Rattle.planning.specs.Backwards.{turned_if};
+ghost use Rattle.planning.specs.Backwards.{read_ring};
 ghost use Rattle.planning.specs.Measured.{Measured};
 
 use crate::loop_ring::LoopRing;
 use crate::sides::measure_sides;
+use crate::spacing::Spacing;
 
 // The nodes planned, where inner points over 2,048 count as 2,049; and the longest side with a positive span.
 #[derive(Clone, Copy)]
@@ -42,8 +43,7 @@ pub fn inner_of(span: f64, h: f64) -> usize
 fn span_of(length: f64, start: f64, end: f64) -> f64
     ensures { result ≡ greater (length ⊖ start ⊖ end) (decimal 0 0) }
 {
-    let left = length - start - end;
-    if 0.0 <= left { left } else { 0.0 }
+    float::greater(length - start - end, 0.0)
 }
 
 // The sum of inner points, which stays at 2,049 once it is over 2,048.
@@ -105,21 +105,17 @@ fn plan_measured(n: usize, h: f64, lengths: &[f64], spans: &mut [f64]) -> Plan
 
 // Writes the sides' lengths and spans and plans them.
 pub fn plan_sides(
-    pts: &[f64],
-    n: usize,
-    back: bool,
-    h: f64,
-    corner_margin: f64,
+    ring: LoopRing<'_>,
+    spacing: Spacing,
     lengths: &mut [f64],
     spans: &mut [f64],
 ) -> Plan
-    requires { (n * 2 ≤ length pts.now) × (0 < n) × (n ≤ front_node_limit) × (n ≤ length lengths.old) × (n ≤ length spans.old) }
-    ensures { (result.total ≡ n + min (plans.inner_sum h corner_margin (turned_if back (ring_of pts.now n)) n) 2049)
-        × (result.longest ≡ (plans.longest h corner_margin (turned_if back (ring_of pts.now n)) n).0)
-        × ((i : ℕ) → i < n → get_or lengths.new i nan ≡ plans.side_at (turned_if back (ring_of pts.now n)) i)
-        × ((i : ℕ) → i < n → get_or spans.new i nan ≡ plans.span h corner_margin (turned_if back (ring_of pts.now n)) i) }
+    requires { (0 < ring.n) × (ring.n ≤ front_node_limit) × (ring.n ≤ length lengths.old) × (ring.n ≤ length spans.old) }
+    ensures { (result.total ≡ ring.entry.n + min (plans.inner_sum spacing.h spacing.corner_margin (read_ring ring.entry) ring.entry.n) 2049)
+        × (result.longest ≡ (plans.longest spacing.h spacing.corner_margin (read_ring ring.entry) ring.entry.n).0)
+        × ((i : ℕ) → i < ring.entry.n → get_or lengths.new i nan ≡ plans.side_at (read_ring ring.entry) i)
+        × ((i : ℕ) → i < ring.entry.n → get_or spans.new i nan ≡ plans.span spacing.h spacing.corner_margin (read_ring ring.entry) i) }
 {
-    let ring = LoopRing { pts, n, back };
-    measure_sides(ring, h, corner_margin, lengths, spans);
-    plan_measured(n, h, lengths, spans)
+    measure_sides(ring, spacing, lengths, spans);
+    plan_measured(ring.n, spacing.h, lengths, spans)
 }

@@ -1,20 +1,15 @@
 -- The job that a text is: too many loops or points are number 1, and what an accepted job left is sound.
 use mathlib.Core.Path.{◌≡◌, refl, sym, ◌∙◌, ap}
 use mathlib.Core.Bool.{Bool, true, false, ◌||◌}
-use mathlib.Core.List.{List}
 use Prim.Native.Nat.{ℕ, ◌/◌, ◌<◌}
-use lib.Ieee.{Float}
 use lib.ListN.{length}
 use borrow.Author.Tests.{lt-ltb}
 use Rattle.state.specs.Limits.{front_limit, front_node_limit, points_length, quads_length}
-use Rattle.state.specs.declared.Counts.{Counts}
 use Rattle.state.specs.State.{Lengths, lengths}
-use Rattle.state.specs.Outcome.{Outcome, refused, gives, first_true}
-use Rattle.state.specs.Call.{Left, held, lengths_of, number_of, job_left, lent}
+use Rattle.state.specs.Outcome.{first_true}
+use Rattle.state.specs.Call.{Left, lengths_of, number_of, job_left, lent}
 use Rattle.state.specs.Given.{wrong_state}
-use Rattle.input.specs.declared.Options.{Options}
-use Rattle.input.specs.Defaults.{defaults}
-use Rattle.input.specs.Job.{Job, job, wrong_shape, input_number, loop_limit, pair_limit}
+use Rattle.input.specs.Job.{Job, wrong_shape, input_number, loop_limit, pair_limit}
 use Rattle.sampling.specs.Sample.{on_job}
 use Rattle.rules.specs.Calls.{job_call}
 use Rattle.rules.proofs.Demands as demands

@@ -34,7 +34,7 @@ fn put_job(w: &mut Writer, job: &Job)
         front_lengths: &mut front_lengths,
     };
     let answer = job::job(job, &mut lent);
-    put_answer(w, answer, &lent);
+    put_answer(w, answer, &lent.read());
 }
 
 fn put_paved(w: &mut Writer, input: &[u8])
@@ -47,12 +47,7 @@ fn put_paved(w: &mut Writer, input: &[u8])
     let mut loop_lengths = [0u16; 16];
     match read_job(input, &mut coords, &mut loop_lengths) {
         Ok(read) => {
-            let job = Job {
-                coords: &coords[..read.pairs * 2],
-                loop_lengths: &loop_lengths[..read.loops],
-                h: read.size,
-                options: input::defaults(),
-            };
+            let job = read.job(&coords, &loop_lengths);
             put_job(w, &job);
         }
         Err(error) => put_refused(w, error.number()),
@@ -61,6 +56,7 @@ fn put_paved(w: &mut Writer, input: &[u8])
 
 // A buffer of fewer than 270,336 bytes is left alone, and the result is 0; no answer is that long. Otherwise the answer's text,
 // zeros behind it, and the text's length, whatever the buffer held.
+// `pave_text`, `draw_text` and `recheck` differ in their buffer's length and in what writes it; C's names for the first and last need each.
 pub fn pave_text(input: &[u8], out: &mut [u8]) -> usize
     ensures { texted result out.new ≡ text_call input.now out.old }
 {

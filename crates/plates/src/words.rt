@@ -3,7 +3,6 @@
 ghost use Rattle.std.specs.Prelude.{◌≡◌, ◌≤◌, length, take};
 
 use calls::run;
-use input::{Job, defaults};
 use job_text::read_job;
 use showing::{line, show_text};
 use standard::{answer_buffer, read_input};
@@ -47,12 +46,7 @@ fn call(rt: &impl Print, text: &[u8], letters: &[u8]) {
     if 16 < read.loops {
         return;
     }
-    let job = Job {
-        coords: &coords[..read.pairs * 2],
-        loop_lengths: &loops[..read.loops],
-        h: read.size,
-        options: defaults(),
-    };
+    let job = read.job(&coords, &loops);
     run(rt, &job, letters);
 }
 

@@ -3,15 +3,8 @@
 // error says so; the same when the answer could not be written whole.
 #![tactic(auto)]
 
+// The buffers: one byte more than `recheck` asks for, since no list is as long as that and a longer text, cut there, is unreadable all
+// the same; and what `recheck` asks for.
 fn main(rt: HostRuntime) {
-    let mut input = standard::list_input();
-    let Ok(n) = standard::read_input(&mut rt.stdin(), &mut input) else {
-        standard::say_unread(&rt);
-        return;
-    };
-    let mut output = standard::list_buffer();
-    let m = tile_list::recheck(&input[..n], &mut output);
-    if m <= output.len() {
-        standard::write_output(&rt, &output[..m]);
-    }
+    standard::turn::<286721, 286720, _>(&rt, tile_list::recheck);
 }

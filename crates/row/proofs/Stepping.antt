@@ -9,7 +9,6 @@ use lib.Dec.{ltb}
 use lib.Ieee.{Float}
 use lib.ListN.{length, get_or, take}
 use Rattle.geometry.specs.Rings.{Ring, node_ring}
-use Rattle.geometry.specs.Domain.{sum_of}
 use Rattle.state.specs.Limits.{point_limit, quad_limit}
 use Rattle.state.specs.State.{State, Held, cut, reading, written, counts_of}
 use Rattle.state.specs.Outcome.{first_true, test, outcome, refused, gives}
@@ -55,9 +54,6 @@ done_is s l f = rw f
 module _ (b : Held) (sound : Sound b) where
   abbrev counted : Counted b
   counted = sound_counted b sound
-
-  pub read_below : (i : ℕ) → i < sum_of (sizes_of b) → get_or b.front_nodes i 0 * 2 + 1 < length (take (b.counts.points * 2) b.points)
-  read_below i l = let e = points_long_lem b counted in let g = sound.below i l in omega arith
 
   module _ (li : ℕ) (hl : li < length (sizes_of b)) where
     -- the row's number, as the code computes it

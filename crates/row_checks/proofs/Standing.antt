@@ -2,7 +2,7 @@
 use mathlib.Core.Path.{◌≡◌, refl, sym, ◌∙◌, ap}
 use mathlib.Core.Bool.{Bool, true, false, cond, not, ◌&&◌, ◌||◌, and_assoc, and_comm}
 use mathlib.Core.List.{List, [], ◌∷◌}
-use Prim.Native.Nat.{ℕ, ◌+◌, ◌*◌, ◌/◌, ◌%◌, ◌<◌, ◌≤◌}
+use Prim.Native.Nat.{ℕ, ◌+◌, ◌*◌, ◌/◌, ◌%◌, ◌<◌}
 use lib.Dec.{leb, ltb}
 use lib.Ieee.{Float}
 use lib.ListN.{length, get_or, take}
@@ -10,6 +10,7 @@ use Rattle.geometry.specs.F64.{◌⊗◌}
 use Rattle.geometry.specs.Rings.{ring_of, node_ring}
 use Rattle.geometry.specs.Domain.{rings}
 use Rattle.input.specs.Job.{Job}
+use Rattle.state.specs.declared.fronts.Fronts.{Fronts}
 use Rattle.state.specs.Limits.{point_limit, quad_limit}
 use Rattle.state.specs.Outcome.{first_true, test}
 use Rattle.rules.specs.Simple.{is_simple}
@@ -32,53 +33,55 @@ reordered true true false d e f = refl
 reordered true false c d e f = refl
 reordered false b c d e f = refl
 
--- the checks as the code makes them, on the front li of all fronts, whose nodes it read as `old`
-pub in_order : (j : Job) (pts : List Float) (lengths nodes : List ℕ) (li : ℕ) (row : List Float) {start n : ℕ} {old : List ℕ} → li < length lengths → sum_of lengths ≤ length nodes
-    → length pts % 2 ≡ 0 → ((i : ℕ) → i < sum_of lengths → get_or nodes i 0 * 2 + 1 < length pts) → start ≡ sum_of (take li lengths) → n ≡ get_or lengths li 0
-    → old ≡ take n (drop start nodes)
-    → rest_stands j pts (cut lengths nodes) li row
+-- the checks as the code makes them, on the front li, whose nodes are `old`
+pub in_order : (j : Job) (f : Fronts) (li : ℕ) (row : List Float) {p : List Float} {n : ℕ} {old : List ℕ} → length f.points.now % 2 ≡ 0 → li < length f.lengths.now → p ≡ f.points.now
+    → old ≡ get_or (cut f.lengths.now f.nodes.now) li [] → n ≡ length old
+    → rest_stands j f.points.now (cut f.lengths.now f.nodes.now) li row
     ≡ (all_inside (rings j.coords j.loops) row n && all_off_boundary (rings j.coords j.loops) (of_bits binary64 0x3FA9_9999_9999_999A ⊗ j.h) row n
-    && (all_long_enough (j.options.min_edge_fraction ⊗ j.h) row n && corners_between j.options.corner_limit pts old row n)
-    && all_clear_of_fronts pts (cut lengths nodes) li (j.options.front_gap ⊗ j.h) row n && is_simple (ring_of row n))
+    && (all_long_enough (j.options.min_edge_fraction ⊗ j.h) row n && corners_between j.options.corner_limit p old row n)
+    && all_clear_of_fronts f.points.now (cut f.lengths.now f.nodes.now) li (j.options.front_gap ⊗ j.h) row n && is_simple (ring_of row n))
 unfolding rest_stands
-in_order j pts lengths nodes li row {n = n} hl fits even below hs hn ho =
-    let size = cut-length lengths nodes li hl fits n hn in
-    let named = part_of_all lengths nodes li hl fits _ _ _ _ refl refl (cut_at lengths nodes li hl) below in
+in_order j f li row even hl hp ho hn =
+    let named = part_of_all f.lengths.now f.nodes.now li hl f.fits _ _ _ _ refl refl (cut_at f.lengths.now f.nodes.now li hl) f.named in
     rw (
-      corners_agree j.options.corner_limit pts (get_or (cut lengths nodes) li []) row even named,
-      ← size,
-      part_is lengths nodes li hl fits _ _ _ hs hn ho,
+      corners_agree j.options.corner_limit f.points.now (get_or (cut f.lengths.now f.nodes.now) li []) row even named,
+      ← ho,
+      ← hn,
+      hp,
       twentieth_is,
       reordered,
     )
 
--- the front li has as many nodes as were read
-pub front_long : (lengths nodes : List ℕ) (li : ℕ) {start n : ℕ} {old : List ℕ} → li < length lengths → sum_of lengths ≤ length nodes → start ≡ sum_of (take li lengths) → n ≡ get_or lengths li 0
-    → old ≡ take n (drop start nodes) → length old ≡ n
-front_long lengths nodes li {n = n} hl fits hs hn ho = ap length (part_is lengths nodes li hl fits _ _ _ hs hn ho) ∙ sym (cut-length lengths nodes li hl fits n hn)
+-- ---- the number of a row, on the front li as it was read: `n` nodes from place `start` on
 
--- ---- the number of a row
-
-module _ (j : Job) (pts : List Float) (lengths nodes : List ℕ) (quads li : ℕ) (hl : li < length lengths) (fits : sum_of lengths ≤ length nodes) {start n : ℕ} (hs : start ≡ sum_of (take li lengths)) (hn : n ≡ get_or lengths li 0)
-    {old : List ℕ} (ho : old ≡ take n (drop start nodes)) where
+module _ (j : Job) (f : Fronts) (quads li : ℕ) (hl : li < length f.lengths.now) {start n : ℕ} (hs : start ≡ sum_of (take li f.lengths.now)) (hn : n ≡ get_or f.lengths.now li 0) {old : List ℕ}
+    (ho : old ≡ take n (drop start f.nodes.now)) where
   abbrev front : List ℕ
-  front = get_or (cut lengths nodes) li []
+  front = get_or (cut f.lengths.now f.nodes.now) li []
 
   front_is : old ≡ front
-  front_is = part_is lengths nodes li hl fits start n old hs hn ho
+  front_is = part_is f.lengths.now f.nodes.now li hl f.fits start n old hs hn ho
 
-  -- 22 where a check fails, 21 where there is no room for a row that stands
-  pub number_is : row_number j pts (cut lengths nodes) quads li
-      ≡ cond (leb 6 (length old) && all_project (node_ring pts old) j.h && rest_stands j pts (cut lengths nodes) li (new_points (node_ring pts old) j.h (length old)))
-      (cond (ltb point_limit (length pts / 2 + length old) || ltb quad_limit (quads + length old)) 21 0)
-      22
-  unfolding row_number row_stands first_true
-  number_is = rw (← front_is) (go (leb 6 (length old) && all_project (node_ring pts old) j.h && rest_stands j pts (cut lengths nodes) li (new_points (node_ring pts old) j.h (length old))) _)
-    where
-      go : (stands full : Bool) → first_true (test 22 (not stands) ∷ test 21 full ∷ []) ≡ cond stands (cond full 21 0) 22
-      go true true = refl
-      go true false = refl
-      go false full = refl
+  -- the front has as many nodes as were read
+  pub front_long : length old ≡ n
+  front_long = ap length front_is ∙ sym (cut-length f.lengths.now f.nodes.now li hl f.fits n hn)
 
-  pub row_is : (row : List Float) → take (length old * 2) row ≡ new_points (node_ring pts old) j.h (length old) → take (get_or lengths li 0 * 2) row ≡ new_points (node_ring pts front) j.h (get_or lengths li 0)
-  row_is row r = let l = front_long lengths nodes li hl fits hs hn ho in rw (← hn, ← l, ← front_is) r
+  module _ {p : List Float} (hp : p ≡ f.points.now) where
+    -- 22 where a check fails, 21 where there is no room for a row that stands
+    pub number_is : row_number j f.points.now (cut f.lengths.now f.nodes.now) quads li
+        ≡ cond (leb 6 (length old) && all_project (node_ring p old) j.h && rest_stands j f.points.now (cut f.lengths.now f.nodes.now) li (new_points (node_ring p old) j.h (length old)))
+        (cond (ltb point_limit (length f.points.now / 2 + length old) || ltb quad_limit (quads + length old)) 21 0)
+        22
+    unfolding row_number row_stands first_true
+    number_is =
+        rw (← front_is, hp)
+        (go (leb 6 (length old) && all_project (node_ring f.points.now old) j.h && rest_stands j f.points.now (cut f.lengths.now f.nodes.now) li (new_points (node_ring f.points.now old) j.h (length old))) _)
+      where
+        go : (stands full : Bool) → first_true (test 22 (not stands) ∷ test 21 full ∷ []) ≡ cond stands (cond full 21 0) 22
+        go true true = refl
+        go true false = refl
+        go false full = refl
+
+    pub row_is : (row : List Float) → take (length old * 2) row ≡ new_points (node_ring p old) j.h (length old)
+        → take (get_or f.lengths.now li 0 * 2) row ≡ new_points (node_ring f.points.now front) j.h (get_or f.lengths.now li 0)
+    row_is row r = rw (← hn, ← front_long, ← front_is, ← hp) r

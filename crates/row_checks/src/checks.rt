@@ -1,35 +1,27 @@
-// The checks of a candidate row that ask where its `n` new points stand.
-ghost use Rattle.std.specs.Prelude.{◌≡◌, ℕ, ◌*◌, ◌+◌, ◌<◌, ◌≤◌, get_or, length};
-ghost use Rattle.geometry.specs.Domain.{sum_of, rings};
+// The checks of a candidate row that ask where its new points stand. A row is asked by place, so the walks go over its places.
+ghost use Rattle.std.specs.Prelude.{◌≡◌};
+ghost use Rattle.geometry.specs.Domain.{rings};
 ghost use Rattle.rules.specs.Checks.{all_clear_of, all_inside, all_off_boundary};
 
+use geometry::{FirstPoints, NodePoints, Outline, Ring, front_distance};
+
 // Every new point is in the domain.
-pub fn all_inside(coords: &[f64], loops: &[u16], row: &[f64], n: usize) -> bool
-    requires { (n * 2 ≤ length row.now) × (sum_of loops.now * 2 ≤ length coords.now) }
-    ensures { result ≡ all_inside (rings coords.now loops.now) row.now n }
+pub fn all_inside(outline: &Outline, row: &FirstPoints) -> bool
+    ensures { result ≡ all_inside (rings outline.now.coords.now outline.now.loop_lengths.now) row.now.pts.now row.now.n }
 {
-    (0..n).all(|i| geometry::contains(coords, loops, geometry::point_at(row, i)))
+    (0..row.n).all(|i| outline.contains(row.at(i)))
 }
 
 // No new point is nearer than `least` to the boundary.
-pub fn all_off_boundary(coords: &[f64], loops: &[u16], row: &[f64], n: usize, least: f64) -> bool
-    requires { (n * 2 ≤ length row.now) × (sum_of loops.now * 2 ≤ length coords.now) }
-    ensures { result ≡ all_off_boundary (rings coords.now loops.now) least row.now n }
+pub fn all_off_boundary(outline: &Outline, row: &FirstPoints, least: f64) -> bool
+    ensures { result ≡ all_off_boundary (rings outline.now.coords.now outline.now.loop_lengths.now) least row.now.pts.now row.now.n }
 {
-    (0..n).all(|i| {
-        let p = geometry::point_at(row, i);
-        !(geometry::distance_to_boundary(coords, loops, p) < least)
-    })
+    (0..row.n).all(|i| !(outline.distance_to_boundary(row.at(i)) < least))
 }
 
-// No new point is nearer than `least` to the front of these nodes.
-pub fn all_clear_of(points: &[f64], nodes: &[u16], row: &[f64], n: usize, least: f64) -> bool
-    requires n_in_bounds { n * 2 ≤ length row.now }
-    requires by_index { (i : ℕ) → i < length nodes.now → get_or nodes.now i 0 * 2 + 1 < length points.now }
-    ensures { result ≡ all_clear_of points.now nodes.now least row.now n }
+// No new point is nearer than `least` to a front.
+pub fn all_clear_of(front: &NodePoints, row: &FirstPoints, least: f64) -> bool
+    ensures { result ≡ all_clear_of front.now.pts.now front.now.nodes.now least row.now.pts.now row.now.n }
 {
-    (0..n).all(|i| {
-        let p = geometry::point_at(row, i);
-        !(geometry::front_distance(p, points, nodes) < least)
-    })
+    (0..row.n).all(|i| !(front_distance(row.at(i), front) < least))
 }

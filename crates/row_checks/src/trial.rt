@@ -1,12 +1,11 @@
 // A row tried: the projections of a front's nodes, and the checks on them. Nothing lent is written here.
-ghost use Rattle.std.specs.Prelude.{◌≡◌, cond, [], ℕ, ◌%◌, ◌*◌, ◌+◌, ◌<◌, ◌≤◌, get_or, length, take};
+ghost use Rattle.std.specs.Prelude.{◌≡◌, IfOk, cond, [], ◌%◌, ◌*◌, ◌<◌, ◌≤◌, get_or, length, take};
 ghost use Rattle.geometry.specs.Rings.{node_ring};
 ghost use Rattle.rules.specs.Checks.{all_project, new_points};
 ghost use Rattle.rules.specs.Row.{rest_stands, row_number};
-ghost use Rattle.geometry.specs.Domain.{sum_of};
-ghost use Rattle.state.specs.Limits.{front_limit, quad_limit};
+ghost use Rattle.state.specs.Limits.{quad_limit};
 ghost use Rattle.state.specs.State.{cut};
-ghost use Rattle.input.specs.Job.{job_of};
+ghost use Rattle.input.specs.Job.{accepted_of};
 ghost use Rattle.state.specs.Refusals.{refusal_of};
 
 use crate::checks::{all_inside, all_off_boundary};
@@ -14,26 +13,26 @@ use crate::fronts::clear_of_fronts;
 use crate::projecting::project;
 use crate::quads::all_quads_stand;
 use crossing::is_simple;
-use input::Job;
+use geometry::{FirstPoints, NodePoints, Ring};
+use input::Accepted;
 use rules::Projection;
-use state::{Front, Refusal, front_at, nodes_of};
+use state::{Fronts, Refusal, front_at};
 
-// The projections of the nodes, from the front of `row`; refused when a node does not project. A side's length serves the nodes at
-// both of its ends.
-pub fn project_row(points: &[f64], nodes: &[u16], h: f64, row: &mut [f64]) -> Result<(), Refusal>
-    requires nodes_nonzero { (0 < length nodes.now) × (length nodes.now * 2 ≤ length row.old) }
-    requires by_index { (i : ℕ) → i < length nodes.now → get_or nodes.now i 0 * 2 + 1 < length points.now }
-    ensures value { refusal_of result ≡ cond (all_project (node_ring points.now nodes.now) h) 0 22 }
-    ensures row_after { refusal_of result ≡ 0 → take (length nodes.now * 2) row.new ≡ new_points (node_ring points.now nodes.now) h (length nodes.now) }
+// The projections of a ring's nodes, from the front of `row`; refused when a node does not project. A side's length serves the nodes
+// at both of its ends.
+pub fn project_row<R: Ring>(ring: &R, h: f64, row: &mut [f64]) -> Result<(), Refusal>
+    requires { (0 < (R.ring ring.now).size) × ((R.ring ring.now).size * 2 ≤ length row.old) }
+    ensures value { refusal_of result ≡ cond (all_project (R.ring ring.now) h) 0 22 }
+    ensures row_after { refusal_of result ≡ 0 → take ((R.ring ring.now).size * 2) row.new ≡ new_points (R.ring ring.now) h (R.ring ring.now).size }
 {
-    let n = nodes.len();
+    let n = ring.size();
     let last = geometry::prev_of(n, 0);
-    let mut a = geometry::node_point(points, nodes, last);
-    let mut b = geometry::node_point(points, nodes, 0);
+    let mut a = ring.at(last);
+    let mut b = ring.at(0);
     let mut l1 = geometry::side_length(a, b);
     for i in 0..n {
         let after = geometry::next_of(n, i);
-        let c = geometry::node_point(points, nodes, after);
+        let c = ring.at(after);
         let l2 = geometry::side_length(b, c);
         let Projection::At(x, y) = project(a, b, c, l1, l2, h) else {
             return Err(Refusal::Row);
@@ -46,70 +45,65 @@ pub fn project_row(points: &[f64], nodes: &[u16], h: f64, row: &mut [f64]) -> Re
     Ok(())
 }
 
-// The checks that follow the projection, on the new points `row` of front `li`. Each refuses with the same number, so the dear ones,
-// on the other fronts and on pairs of sides, come last.
-#[tactic(auto, using(state::proofs::Cutting::total_within, crate::proofs::Standing::in_order, crate::proofs::Standing::front_long))]
+// The checks that follow the projection, on the new points `row` of front `li`, whose nodes are `old`. Each refuses with the same
+// number, so the dear ones, on the other fronts and on pairs of sides, come last.
 fn rest_stands(
-    job: &Job,
-    points: &[f64],
-    front_nodes: &[u16],
-    lengths: &[u16],
+    job: &Accepted,
+    fronts: &Fronts,
     li: usize,
-    front: Front,
-    row: &[f64],
+    old: &NodePoints,
+    row: &FirstPoints,
 ) -> bool
-    requires li_in_bounds { (li < length lengths.now) × (front.start ≡ sum_of (take li lengths.now)) × (front.len ≡ get_or lengths.now li 0) × (0 < front.len) × (front.len * 2 ≤ length row.now) }
-    requires loop_lengths_in_bounds { (sum_of job.now.loop_lengths.now * 2 ≤ length job.now.coords.now) × (sum_of lengths.now ≤ length front_nodes.now) × (length points.now % 2 ≡ 0) }
-    requires by_index { (i : ℕ) → i < sum_of lengths.now → get_or front_nodes.now i 0 * 2 + 1 < length points.now }
-    ensures { result ≡ rest_stands (job_of job.now) points.now (cut lengths.now front_nodes.now) li row.now }
+    requires even { length fronts.now.points.now % 2 ≡ 0 }
+    requires front { (li < length fronts.now.lengths.now) × (old.now.pts.now ≡ fronts.now.points.now)
+        × (old.now.nodes.now ≡ get_or (cut fronts.now.lengths.now fronts.now.nodes.now) li []) }
+    requires row { (0 < row.now.n) × (row.now.n ≡ length old.now.nodes.now) }
+    ensures { result ≡ rest_stands (accepted_of job.now) fronts.now.points.now (cut fronts.now.lengths.now fronts.now.nodes.now) li row.now.pts.now }
 {
-    let Job {
-        coords,
-        loop_lengths,
+    let Accepted {
+        outline,
         h,
         options,
     } = *job;
-    let n = front.len;
-    let old = nodes_of(front_nodes, front.start, n);
     let least = options.min_edge_fraction * h;
     let gap = options.front_gap * h;
-    all_inside(coords, loop_lengths, row, n)
-        && all_off_boundary(coords, loop_lengths, row, n, 0.05 * h)
-        && all_quads_stand(points, old, row, n, least, options.corner_limit)
-        && clear_of_fronts(points, front_nodes, lengths, li, row, n, gap)
-        && is_simple(row, n)
+    all_inside(&outline, row)
+        && all_off_boundary(&outline, row, 0.05 * h)
+        && all_quads_stand(old, row, least, options.corner_limit)
+        && clear_of_fronts(fronts, li, row, gap)
+        && is_simple(row)
 }
 
-// A row on front `li` tried, where `quads` quads are laid. When it stands its points are the first of `row`.
+// A row on front `li` tried, where `quads` quads are laid. When it stands its points are the first of `row`, and the answer is how many.
 #[tactic(auto, using(state::proofs::Cutting::total_within, crate::proofs::Standing::number_is, crate::proofs::Standing::front_long, std::proofs::lemmas::Bool::Decides::nat_tests))]
 pub fn try_row(
-    job: &Job,
-    points: &[f64],
-    front_nodes: &[u16],
-    lengths: &[u16],
+    job: &Accepted,
+    fronts: &Fronts,
     quads: usize,
     li: usize,
     row: &mut [f64],
-) -> Result<(), Refusal>
-    requires li_in_bounds { (li < length lengths.now) × (length lengths.now ≤ front_limit) × (quads ≤ quad_limit) }
-    requires loop_lengths_in_bounds { (sum_of job.now.loop_lengths.now * 2 ≤ length job.now.coords.now) × (sum_of lengths.now ≤ length front_nodes.now) × (get_or lengths.now li 0 * 2 ≤ length row.old) × (length points.now % 2 ≡ 0) }
-    requires by_index { (i : ℕ) → i < sum_of lengths.now → get_or front_nodes.now i 0 * 2 + 1 < length points.now }
-    ensures value { refusal_of result ≡ row_number (job_of job.now) points.now (cut lengths.now front_nodes.now) quads li }
-    ensures row_after { refusal_of result ≡ 0 → take (get_or lengths.now li 0 * 2) row.new ≡ new_points (node_ring points.now (get_or (cut lengths.now front_nodes.now) li [])) job.now.h (get_or lengths.now li 0) }
+) -> Result<usize, Refusal>
+    requires even { length fronts.now.points.now % 2 ≡ 0 }
+    requires room { (li < length fronts.now.lengths.now) × (quads ≤ quad_limit) × (get_or fronts.now.lengths.now li 0 * 2 ≤ length row.old) }
+    ensures value { refusal_of result ≡ row_number (accepted_of job.now) fronts.now.points.now (cut fronts.now.lengths.now fronts.now.nodes.now) quads li }
+    ensures points { IfOk result (λ n. n ≡ get_or fronts.now.lengths.now li 0) }
+    ensures row_after { refusal_of result ≡ 0 → take (get_or fronts.now.lengths.now li 0 * 2) row.new
+        ≡ new_points (node_ring fronts.now.points.now (get_or (cut fronts.now.lengths.now fronts.now.nodes.now) li [])) job.now.h (get_or fronts.now.lengths.now li 0) }
 {
-    let front = front_at(lengths, li);
+    let front = front_at(fronts.lengths, li);
     let n = front.len;
     if n < 6 {
         return Err(Refusal::Row);
     }
-    let old = nodes_of(front_nodes, front.start, n);
-    project_row(points, old, job.h, row)?;
+    let old = fronts.ring(front.start, n);
+    project_row(&old, job.h, row)?;
     let m = n * 2;
-    if !rest_stands(job, points, front_nodes, lengths, li, front, &row[..m]) {
+    let tried = FirstPoints { pts: &row[..m], n };
+    if !rest_stands(job, fronts, li, &old, &tried) {
         return Err(Refusal::Row);
     }
-    if 4096 < points.len() / 2 + n || 4096 < quads + n {
+    if 4096 < fronts.points.len() / 2 + n || 4096 < quads + n {
         return Err(Refusal::Full);
     }
-    Ok(())
+    Ok(n)
 }

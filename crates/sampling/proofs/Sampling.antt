@@ -2,13 +2,13 @@
 use mathlib.Core.Path.{◌≡◌, refl, sym, ap, subst, ◌∙◌}
 use mathlib.Core.Bool.{Bool, false}
 use mathlib.Core.List.{List, [], ◌∷◌, ◌++◌, map, append-nil, map-append}
-use Prim.Native.Nat.{ℕ, ◌+◌, ◌-◌, ◌*◌, ◌/◌, ◌≤◌, ◌<◌}
-use native.Mathlib.Nat.{zero-add, le_of_eq, le_trans}
+use Prim.Native.Nat.{ℕ, ◌+◌, ◌*◌, ◌/◌, ◌≤◌, ◌<◌}
+use native.Mathlib.Nat.{zero-add, le_trans}
 use native.Mathlib.Numerals.{add-one}
 use native.Mathlib.Omega.{arith}
-use lib.ListN.{length, get_or, take, drop, set, length-append, length-drop, drop_of_length-le, length-map}
+use lib.ListN.{length, get_or, drop, set, length-append, length-drop, drop_of_length-le, length-map}
 use lib.Dec.{eqb}
-use lib.Seq.{sets, drop-cons, drop-drop, take_all}
+use lib.Seq.{sets, drop-cons}
 use lib.Ieee.{Float}
 use borrow.Author.Tests.{ne_eqb}
 use Rattle.geometry.specs.Rings.{Ring, ring_of}
@@ -44,11 +44,6 @@ pub made_nodes : {h corner_margin : Float} {r : Ring} {before at : ℕ} {entry e
     → MadeIs h corner_margin r before at entry exit answer made → (answer ≡ gives (placed h corner_margin r r.size)) × Written h corner_margin r before at m.planned m.placed entry exit
 made_nodes e w = rw e at w
 
--- ---- the slice of the coordinates that are left
-
-pub rest_whole : {A : Type 0} (l : List A) (n : ℕ) → take (length l - n) (drop n l) ≡ drop n l
-rest_whole l n = take_all (length l - n) (drop n l) (le_of_eq (length-drop n l))
-
 -- ---- one loop of those to come
 
 module _ (h corner_margin : Float) (before : ℕ) (ccw : Bool) (s : State) (r : Ring) (rs : List Ring) where
@@ -70,12 +65,14 @@ module _ (h corner_margin : Float) (before : ℕ) (ccw : Bool) (s : State) (r : 
       (sym e) refl
 
 module _ (coords : List Float) (loops : List ℕ) (h corner_margin : Float) (p₀ : List Float) (n₀ l₀ : List ℕ) where
-  pub record Progress (first before nodes k : ℕ) (p : List Float) (n l : List ℕ) : Type 0 where
+  -- `ahead` are the coordinates of the loops to come
+  pub record Progress (ahead : List Float) (before nodes k : ℕ) (p : List Float) (n l : List ℕ) : Type 0 where
     pub points : List Float
     pub fronts : List (List ℕ)
     pub turn : k ≤ length loops
-    pub to_come : sample_from h corner_margin before (eqb k 0) (of_loops points fronts) (rings (drop first coords) (drop k loops)) ≡ all_loops coords loops h corner_margin
-    pub left : first + sum_of (drop k loops) * 2 ≡ length coords
+    pub to_come : sample_from h corner_margin before (eqb k 0) (of_loops points fronts) (rings ahead (drop k loops)) ≡ all_loops coords loops h corner_margin
+    pub left : sum_of (drop k loops) * 2 ≡ length ahead
+    pub shorter : length ahead ≤ length coords
     pub nodes_is : nodes * 2 ≡ length points
     pub fewer : nodes ≤ before
     pub within : before ≤ front_node_limit
@@ -85,14 +82,15 @@ module _ (coords : List Float) (loops : List ℕ) (h corner_margin : Float) (p�
     pub nodes_are : n ≡ sets n₀ 0 (joined fronts)
     pub lengths_are : l ≡ sets l₀ 0 (map length fronts)
 
-  pub at_first : sum_of loops * 2 ≡ length coords → Progress 0 0 0 0 p₀ n₀ l₀
+  pub at_first : sum_of loops * 2 ≡ length coords → Progress coords 0 0 0 p₀ n₀ l₀
   unfolding joined
   at_first e = record {
     points = [];
     fronts = [];
     turn = omega arith;
     to_come = refl;
-    left = zero-add (sum_of loops * 2) ∙ e;
+    left = e;
+    shorter = omega arith;
     nodes_is = refl;
     fewer = omega arith;
     within = omega arith;
@@ -103,8 +101,8 @@ module _ (coords : List Float) (loops : List ℕ) (h corner_margin : Float) (p�
     lengths_are = refl;
   }
 
-module _ {coords : List Float} {loops : List ℕ} {h corner_margin : Float} {p₀ : List Float} {n₀ l₀ : List ℕ} {first before nodes k : ℕ} {p : List Float} {n l : List ℕ}
-    (sofar : Progress coords loops h corner_margin p₀ n₀ l₀ first before nodes k p n l) where
+module _ {coords : List Float} {loops : List ℕ} {h corner_margin : Float} {p₀ : List Float} {n₀ l₀ : List ℕ} {ahead : List Float} {before nodes k : ℕ} {p : List Float} {n l : List ℕ}
+    (sofar : Progress coords loops h corner_margin p₀ n₀ l₀ ahead before nodes k p n l) where
   pub at_last : length loops ≤ k → Sampled coords loops h corner_margin nodes p₀ p n₀ n l₀ l
   unfolding sample_from rings
   at_last done = record {
@@ -125,25 +123,25 @@ module _ {coords : List Float} {loops : List ℕ} {h corner_margin : Float} {p�
 
   module _ {m : ℕ} (hm : m ≡ get_or loops k 0) (more : k < length loops) where
     abbrev given : Ring
-    given = ring_of (drop first coords) m
+    given = ring_of ahead m
 
     -- the loop to come, and those behind it
     next_pairs : sum_of (drop k loops) ≡ m + sum_of (drop (k + 1) loops)
     unfolding sum_of
     next_pairs = rw (add-one, drop-cons loops k 0 more, hm)
 
-    pub room_left : first + m * 2 + sum_of (drop (k + 1) loops) * 2 ≡ length coords
-    room_left = sum first m (sum_of (drop (k + 1) loops)) ∙ ap (λ (x : ℕ). first + x * 2) (sym next_pairs) ∙ sofar.left
-      where
-        sum : (a b c : ℕ) → a + b * 2 + c * 2 ≡ a + (b + c) * 2
-        sum a b c = omega arith
+    pub room_first : m * 2 ≤ length ahead
+    room_first = omega (arith, next_pairs, sofar.left)
 
-    next-rings : rings (drop first coords) (drop k loops) ≡ given ∷ rings (drop (first + m * 2) coords) (drop (k + 1) loops)
+    room_left : sum_of (drop (k + 1) loops) * 2 ≡ length (drop (m * 2) ahead)
+    room_left = rw length-drop (omega (arith, next_pairs, sofar.left))
+
+    next-rings : rings ahead (drop k loops) ≡ given ∷ rings (drop (m * 2) ahead) (drop (k + 1) loops)
     unfolding rings
-    next-rings = rw (add-one, drop-cons loops k 0 more, ← hm, drop-drop (m * 2) first coords)
+    next-rings = rw (add-one, drop-cons loops k 0 more, ← hm)
 
     abbrev others : List Ring
-    others = rings (drop (first + m * 2) coords) (drop (k + 1) loops)
+    others = rings (drop (m * 2) ahead) (drop (k + 1) loops)
 
     pub loop_refused : (number : ℕ) → sample_loop h corner_margin before (eqb k 0) given ≡ refused number → all_loops coords loops h corner_margin ≡ refused number
     loop_refused number made =
@@ -157,8 +155,8 @@ module _ {coords : List Float} {loops : List ℕ} {h corner_margin : Float} {p�
     abbrev out : List Float
     out = placed h corner_margin ring ring.size
 
-    module _ {before' placed' : ℕ} {p' : List Float} {n' l' : List ℕ} (made : sample_loop h corner_margin before (eqb k 0) given ≡ gives out) (w : Written h corner_margin ring before nodes before' placed' p p')
-        (hn : n' ≡ sets n nodes (numbered nodes placed')) (hl : l' ≡ set l k placed') where
+    module _ {before' placed' : ℕ} {p' ahead' : List Float} {n' l' : List ℕ} (made : sample_loop h corner_margin before (eqb k 0) given ≡ gives out) (w : Written h corner_margin ring before nodes before' placed' p p')
+        (hn : n' ≡ sets n nodes (numbered nodes placed')) (hl : l' ≡ set l k placed') (ha : ahead' ≡ drop (m * 2) ahead) where
       abbrev front : List ℕ
       front = numbered nodes placed'
 
@@ -182,13 +180,14 @@ module _ {coords : List Float} {loops : List ℕ} {h corner_margin : Float} {p�
           half : (x y : ℕ) → y * 2 ≡ x → x / 2 ≡ y
           half x y e = omega arith
 
-      pub one_more : Progress coords loops h corner_margin p₀ n₀ l₀ (first + m * 2) (before + before') (nodes + placed') (k + 1) p' n' l'
+      pub one_more : Progress coords loops h corner_margin p₀ n₀ l₀ ahead' (before + before') (nodes + placed') (k + 1) p' n' l'
       one_more = record {
         points = sofar.points ++ out;
         fronts = sofar.fronts ++ (front ∷ []);
         turn = more_turns k (length loops) more;
-        to_come = rw (ne_eqb (k + 1) 0 (not_first k), ← with_loop_lem) on;
-        left = room_left;
+        to_come = rw (ha, ne_eqb (k + 1) 0 (not_first k), ← with_loop_lem) on;
+        left = rw ha room_left;
+        shorter = rw (ha, length-drop) (omega (arith, sofar.shorter));
         nodes_is = rw (length-append, ← w.placed_is) (both nodes placed' (length sofar.points) sofar.nodes_is);
         fewer = sum-le nodes placed' before before' sofar.fewer w.fewer;
         within = w.within;

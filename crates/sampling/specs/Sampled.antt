@@ -1,13 +1,22 @@
--- What the sampled loops leave in the lent buffers. Definitions only.
+-- What the sampled loops ask, and what they leave in the lent buffers. Definitions only.
 use Rattle.std.specs.Prelude.{Result, Ok, Err, ◌≡◌, true, List, [], map, ℕ, ◌*◌, ◌≤◌, length, Float}
 use Rattle.std.proofs.lemmas.List.Edits.{sets}
-use Rattle.geometry.specs.Domain.{rings}
-use Rattle.state.specs.Limits.{front_node_limit}
+use Rattle.geometry.specs.Domain.{rings, sum_of}
+use Rattle.state.specs.Limits.{front_limit, front_node_limit}
 use Rattle.state.specs.State.{State, joined}
 use Rattle.state.specs.Outcome.{Outcome, refused, gives}
 use Rattle.state.specs.declared.refusal.Refusal.{Refusal}
 use Rattle.state.specs.Refusals.{number}
+use Rattle.input.specs.Job.{Job}
 use Rattle.sampling.specs.Sample.{empty, sample_from}
+
+-- the loops have all points of the job, and there are not too many of either
+abbrev pub Whole : Job → Type 0
+Whole j = (sum_of j.loops * 2 ≡ length j.coords) × (length j.coords ≤ front_node_limit * 2) × (length j.loops ≤ front_limit)
+
+-- the points, front nodes and front lengths are long enough
+abbrev pub Room : List Float → List ℕ → List ℕ → Type 0
+Room p n l = (front_node_limit * 2 ≤ length p) × (front_node_limit ≤ length n) × (front_limit ≤ length l)
 
 -- the state that has these points and fronts and nothing else
 abbrev pub of_loops : List Float → List (List ℕ) → State

@@ -4,4 +4,4 @@
 mod all_loops;
 mod call;
 
-pub use call::sample;
+pub use call::{sample, sample_accepted};

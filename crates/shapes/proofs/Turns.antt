@@ -1,12 +1,13 @@
 -- One turn of each loop: a text of many parts is its first part and the others.
 use mathlib.Core.Path.{◌≡◌, refl, sym, ◌∙◌}
 use mathlib.Core.List.{List, [], ◌∷◌, ◌++◌, map, append-nil}
-use Prim.Native.Nat.{ℕ, suc, ◌+◌, ◌-◌, ◌*◌, ◌/◌, ◌<◌, ◌≤◌}
+use Prim.Native.Nat.{ℕ, zero, suc, ◌+◌, ◌-◌, ◌*◌, ◌/◌, ◌<◌, ◌≤◌}
 use native.Mathlib.Numerals.{add-one}
 use native.Mathlib.Omega.{arith}
 use lib.Ieee.{Float}
-use lib.ListN.{length, get_or, take, drop, drop_of_length-le, length-take}
+use lib.ListN.{length, get_or, take, drop, drop_of_length-le, length-take, length-drop}
 use lib.Seq.{drop-cons}
+use Rattle.std.specs.Simd.{first_chunks}
 use Rattle.float.specs.Helpers.{lesser}
 use Rattle.geometry.specs.declared.Point.{Point}
 use Rattle.geometry.specs.Domain.{sum_of}
@@ -101,27 +102,37 @@ module _ (l : List ℕ) (n : ℕ) (h : n * 4 ≤ length l) where
       let e : take (n * 4) l ≡ joined (map quad_nodes qs) ++ [] = sym (append-nil _ ∙ numbers-quads_of n l h) in
       rw (k, e) (quads_back qs [])
 
-module _ (l x ys : List ℕ) (e : l ≡ x ++ ys) (four : length x ≡ 4) where
-  quads_more : quads_in l ≡ quad_at x ∷ quads_in ys
-  quads_more = rw (e, ← four_all x four) (fours (quad_at x) ys)
+four_is : (xs : List ℕ) → 4 ≤ length xs → quad_at (take 4 xs) ≡ quad_at xs
+four_is [] h = absurd (omega arith)
+four_is (a ∷ []) h = absurd (omega arith)
+four_is (a ∷ b ∷ []) h = absurd (omega arith)
+four_is (a ∷ b ∷ c ∷ []) h = absurd (omega arith)
+four_is (a ∷ b ∷ c ∷ d ∷ xs) h = refl
 
-  pub tiles_next : (limit : Float) (p : List Float) → tiles_text limit p (quads_in l) ≡ tile_text limit p (quad_at x) ++ tiles_text limit p (quads_in ys)
+-- quads as a slice has them, four nodes each
+chunked : (n : ℕ) (xs : List ℕ) → n * 4 ≤ length xs → map quad_at (first_chunks 4 n xs) ≡ quads_of n xs
+unfolding quads_of
+chunked zero xs h = refl
+chunked (suc n) xs h =
+    let l = length-drop 4 xs in
+    rw (four_is xs (omega arith), chunked n (drop 4 xs) (omega arith))
+
+pub all_chunked : (xs : List ℕ) → map quad_at (first_chunks 4 (length xs / 4) xs) ≡ quads_in xs
+all_chunked xs = chunked (length xs / 4) xs (omega arith)
+
+module _ (l : List (List ℕ)) (i : ℕ) where
+  pub tiles_next : (limit : Float) (p : List Float) (x : List ℕ) → i < length l → x ≡ get_or l i [] → tiles_text limit p (map quad_at (drop i l)) ≡ tile_text limit p (quad_at x) ++ tiles_text limit p (map quad_at (drop (i + 1) l))
   unfolding tiles_text
-  tiles_next limit p = rw quads_more
+  tiles_next limit p x h e = rw (e, add-one, drop-cons l i [] h)
 
-  pub worst-next : (p : List Float) (least v less : Float) → v ≡ worst_of p (quad_at x) → less ≡ lesser least v → worst least p (quads_in l) ≡ worst less p (quads_in ys)
+  pub worst-next : (p : List Float) (x : List ℕ) (least v less : Float) → i < length l → x ≡ get_or l i [] → v ≡ worst_of p (quad_at x) → less ≡ lesser least v → worst least p (map quad_at (drop i l)) ≡ worst less p (map quad_at (drop (i + 1) l))
   unfolding worst
-  worst-next p least v less e f = rw (f, e, quads_more)
+  worst-next p x least v less h a e f = rw (f, e, a, drop-cons l i [] h, add-one i)
 
-module _ (l : List ℕ) (few : length l < 4) where
-  quads_none : quads_in l ≡ []
-  unfolding quads_of
-  quads_none = let k : length l / 4 ≡ 0 = omega arith in rw k
-
-  pub tiles_end : (limit : Float) (p : List Float) → tiles_text limit p (quads_in l) ≡ []
+  pub tiles_end : (limit : Float) (p : List Float) → length l ≤ i → tiles_text limit p (map quad_at (drop i l)) ≡ []
   unfolding tiles_text
-  tiles_end limit p = rw quads_none
+  tiles_end limit p h = rw (drop_of_length-le l h)
 
-  pub worst_end : (p : List Float) (least : Float) → worst least p (quads_in l) ≡ least
+  pub worst_end : (p : List Float) (least : Float) → length l ≤ i → worst least p (map quad_at (drop i l)) ≡ least
   unfolding worst
-  worst_end p least = rw quads_none
+  worst_end p least h = rw (drop_of_length-le l h)

@@ -1,5 +1,5 @@
 // The outline's loops, remaining fronts, and nodes.
-ghost use Rattle.std.specs.Prelude.{◌*◌, ◌≤◌, length};
+ghost use Rattle.std.specs.Prelude.{◌≤◌, length};
 ghost use Rattle.geometry.specs.Domain.{sum_of};
 ghost use Rattle.state.specs.State.{cut, numbered};
 ghost use Rattle.text.specs.Writing.{Fits, Same, Wrote};
@@ -7,34 +7,33 @@ ghost use Rattle.shapes.specs.Shapes.{dot_text, dots_text, fronts_text, loops_te
 
 use crate::places::put_place;
 use crate::rings::{put_open, put_ring, put_shape};
-use geometry::{Point, point_at};
+use geometry::{FirstPoints, Outline, Point, Ring, point_at};
 use text::Writer;
 
-fn put_loops(w: &mut Writer, coords: &[f64], loops: &[u16])
-    requires room { Fits w.old (loops_text coords.now 0 loops.now) }
-    requires loops_in_bounds { sum_of loops.now * 2 ≤ length coords.now }
-    ensures put { Wrote w.old (loops_text coords.now 0 loops.now) w.new }
+fn put_loops(w: &mut Writer, outline: &Outline)
+    requires { Fits w.old (loops_text outline.now.coords.now 0 outline.now.loop_lengths.now) }
+    ensures put { Wrote w.old (loops_text outline.now.coords.now 0 outline.now.loop_lengths.now) w.new }
     ensures same { Same w.old w.new }
 {
     let mut first = 0;
-    for n in loops {
+    for n in outline.loop_lengths {
         let n = usize::from(*n);
-        put_ring(w, (first..first + n).map(|i| point_at(coords, i)));
+        put_ring(w, (first..first + n).map(|i| point_at(outline.coords, i)));
         first += n;
     }
 }
 
-pub fn put_outline(w: &mut Writer, coords: &[f64], loops: &[u16])
-    requires room { Fits w.old (outline_text coords.now loops.now) }
-    requires loops_in_bounds { sum_of loops.now * 2 ≤ length coords.now }
-    ensures put { Wrote w.old (outline_text coords.now loops.now) w.new }
+pub fn put_outline(w: &mut Writer, outline: &Outline)
+    requires { Fits w.old (outline_text outline.now.coords.now outline.now.loop_lengths.now) }
+    ensures put { Wrote w.old (outline_text outline.now.coords.now outline.now.loop_lengths.now) w.new }
     ensures same { Same w.old w.new }
 {
     put_open(w, b'o');
-    put_loops(w, coords, loops);
+    put_loops(w, outline);
     w.bytes(b"\"/>\n");
 }
 
+// Of three lists: `Fronts` would ask that each node has a point, and a front is drawn without that too.
 pub fn put_fronts(w: &mut Writer, points: &[f64], nodes: &[u16], lengths: &[u16])
     requires room { Fits w.old (fronts_text points.now (cut lengths.now nodes.now)) }
     requires lengths_in_bounds { sum_of lengths.now ≤ length nodes.now }
@@ -59,25 +58,23 @@ fn put_dot(w: &mut Writer, p: Point)
     w.bytes(b"h0");
 }
 
-fn put_dots(w: &mut Writer, points: &[f64], n: usize)
-    requires room { Fits w.old (dots_text points.now (numbered 0 n)) }
-    requires n_in_bounds { n * 2 ≤ length points.now }
-    ensures put { Wrote w.old (dots_text points.now (numbered 0 n)) w.new }
+// By place, as a ring is asked.
+fn put_dots(w: &mut Writer, nodes: &FirstPoints)
+    requires { Fits w.old (dots_text nodes.now.pts.now (numbered 0 nodes.now.n)) }
+    ensures put { Wrote w.old (dots_text nodes.now.pts.now (numbered 0 nodes.now.n)) w.new }
     ensures same { Same w.old w.new }
 {
-    for i in 0..n {
-        put_dot(w, point_at(points, i));
+    for i in 0..nodes.n {
+        put_dot(w, nodes.at(i));
     }
 }
 
-// The first `n` nodes.
-pub fn put_nodes(w: &mut Writer, class: u8, points: &[f64], n: usize)
-    requires room { Fits w.old (nodes_text class points.now n) }
-    requires n_in_bounds { n * 2 ≤ length points.now }
-    ensures put { Wrote w.old (nodes_text class points.now n) w.new }
+pub fn put_nodes(w: &mut Writer, class: u8, nodes: &FirstPoints)
+    requires { Fits w.old (nodes_text class nodes.now.pts.now nodes.now.n) }
+    ensures put { Wrote w.old (nodes_text class nodes.now.pts.now nodes.now.n) w.new }
     ensures same { Same w.old w.new }
 {
     put_open(w, class);
-    put_dots(w, points, n);
+    put_dots(w, nodes);
     w.bytes(b"\"/>\n");
 }

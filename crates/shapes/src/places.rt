@@ -9,6 +9,7 @@ use text::Writer;
 fn thousandths(x: f64) -> u64
     ensures { result ≡ places.thousandths x }
 {
+    // as: Rust has no From between usize and u64
     float::round_away(float::absolute(x) * 1000.0) as u64
 }
 
@@ -27,9 +28,10 @@ fn put_low(w: &mut Writer, n: u64)
     ensures put { Wrote w.old (places.low_digits n) w.new }
     ensures same { Same w.old w.new }
 {
-    w.byte((48 + n / 100 % 10) as u8);
-    w.byte((48 + n / 10 % 10) as u8);
-    w.byte((48 + n % 10) as u8);
+    // as, three times: below 10, so the error of try_from could not occur
+    w.byte(b'0' + (n / 100 % 10) as u8);
+    w.byte(b'0' + (n / 10 % 10) as u8);
+    w.byte(b'0' + (n % 10) as u8);
 }
 
 // `n` thousandths.

@@ -2,14 +2,15 @@
 #![tactic(auto)]
 
 ghost use Rattle.std.specs.Prelude.{◌≡◌, ◌+◌, ◌≤◌, length};
-ghost use Rattle.state.specs.Call as buffers;
-ghost use Rattle.state.specs.Lent.{held_in, lengths_in};
+ghost use Rattle.state.specs.State.{lengths};
+ghost use Rattle.state.specs.Call.{lent};
+ghost use Rattle.state.specs.Lent.{held_of};
 ghost use Rattle.text.specs.Writing.{Same, Wrote};
 ghost use Rattle.answer_text.specs.Fits.{text_limit};
 ghost use Rattle.showing.specs.Shown.{shown};
 
-use answer_text::put_state;
-use state::{Counts, Lent};
+use answer_text::put_held;
+use state::{Buffers, Counts};
 use text::Writer;
 
 pub fn line(rt: &impl Print, text: &[u8]) {
@@ -29,27 +30,27 @@ pub fn show_refused(rt: &impl Print, number: u32) {
 }
 
 // The text of a state, and nothing for one that number 25 refuses, whatever the buffers hold.
-fn put_shown(w: &mut Writer, lent: &Lent, counts: Counts)
+fn put_shown(w: &mut Writer, held: &Buffers, counts: Counts)
     requires room { w.old.at + text_limit ≤ length w.old.out.now }
-    requires lengths { lengths_in lent.now ≡ buffers.lent }
-    ensures put { Wrote w.old (shown (held_in lent.now counts)) w.new }
+    requires lengths { lengths (held_of held.now counts) ≡ lent }
+    ensures put { Wrote w.old (shown (held_of held.now counts)) w.new }
     ensures same { Same w.old w.new }
 {
-    if lent.is_wrong(counts) {
+    if held.is_wrong(counts) {
         return;
     }
-    put_state(w, lent, counts);
+    put_held(w, held, counts);
 }
 
-pub fn show_state(rt: &impl Print, lent: &Lent, counts: Counts)
-    requires { lengths_in lent.now ≡ buffers.lent }
+pub fn show_state(rt: &impl Print, held: &Buffers, counts: Counts)
+    requires { lengths (held_of held.now counts) ≡ lent }
 {
     let mut out = standard::answer_buffer();
     let mut w = Writer {
         out: &mut out,
         at: 0,
     };
-    put_shown(&mut w, lent, counts);
+    put_shown(&mut w, held, counts);
     let n = w.at;
     show_text(rt, &out, n);
 }

@@ -21,24 +21,3 @@ pub fn answer_buffer() -> [u8; 270336]
 {
     buffer()
 }
-
-// What `draw_text` asks for.
-pub fn picture_buffer() -> [u8; 1638400]
-    ensures { 1638400 ≡ length result }
-{
-    buffer()
-}
-
-// One byte more than `recheck` asks for, since no list is as long as that: a longer text is cut there, and is unreadable all the same.
-pub fn list_input() -> [u8; 286721]
-    ensures { 286721 ≡ length result }
-{
-    buffer()
-}
-
-// What `recheck` asks for.
-pub fn list_buffer() -> [u8; 286720]
-    ensures { 286720 ≡ length result }
-{
-    buffer()
-}

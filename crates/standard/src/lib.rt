@@ -6,7 +6,7 @@ mod buffers;
 ghost use Rattle.std.specs.Prelude.{◌≡◌, ◌<◌, ◌≤◌, length, take, drop, IfOk};
 ghost use Rattle.std.specs.Io.KnownBytes.{Consumes, IsAtEnd};
 
-pub use buffers::{answer_buffer, input_buffer, list_buffer, list_input, picture_buffer};
+pub use buffers::{answer_buffer, input_buffer};
 use std::io;
 use std::io::Read;
 
@@ -51,4 +51,26 @@ pub fn write_output(rt: &(impl Print + Eprint), text: &[u8]) {
 
 pub fn say_unread(rt: &impl Eprint) {
     let _ = rt.eprintln("the input could not be read");
+}
+
+// A program that turns one text into another: standard input, cut at `I` bytes, through `f` to standard output. A result beyond the
+// buffer is not written. The lengths stand in the type, so that the prover need not count to them.
+pub fn turn<const I: usize, const O: usize, F: FnOnce(&[u8], &mut [u8]) -> usize>(
+    rt: &HostRuntime,
+    f: F,
+)
+    requires input_in_bounds { I < 9223372036854775808 }
+    requires output_in_bounds { O < 9223372036854775808 }
+    requires callable { (text : _) (out : _) → O ≡ length out.now → F.pre f text out }
+{
+    let mut input = [0u8; I];
+    let Ok(n) = read_input(&mut rt.stdin(), &mut input) else {
+        say_unread(rt);
+        return;
+    };
+    let mut output = [0u8; O];
+    let m = f(&input[..n], &mut output);
+    if m <= output.len() {
+        write_output(rt, &output[..m]);
+    }
 }

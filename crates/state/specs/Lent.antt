@@ -2,12 +2,17 @@
 use Rattle.std.specs.Prelude.{◌≡◌, length}
 use Rattle.state.specs.declared.Counts.{Counts}
 use Rattle.state.specs.declared.lent.Lent.{Lent}
+use Rattle.state.specs.declared.held.Buffers.{Buffers}
 use Rattle.state.specs.State.{Held, Lengths}
 use Rattle.state.specs.Call.{held, lengths_of}
 
 -- with the counts that the caller holds
 abbrev pub held_in : Lent → Counts → Held
 held_in b c = held b.points.now b.quads.now b.front_nodes.now b.front_lengths.now c
+
+-- the same for buffers that are only read
+abbrev pub held_of : Buffers → Counts → Held
+held_of b c = held b.points.now b.quads.now b.front_nodes.now b.front_lengths.now c
 
 abbrev pub lengths_in : Lent → Lengths
 lengths_in b = lengths_of (length b.points.now) (length b.quads.now) (length b.front_nodes.now) (length b.front_lengths.now)

@@ -1,10 +1,11 @@
-// Points, quads and front numbers written into their buffers.
+// Points, quads and front numbers written into their buffers. The place stands beside the buffer, since each contract says what the
+// whole buffer holds after it.
 ghost use Rattle.std.specs.Prelude.{◌≡◌, [], ◌∷◌, ◌+◌, ◌<◌, ◌≤◌, length};
 ghost use Rattle.std.proofs.lemmas.List.Edits.{sets};
 ghost use Rattle.state.specs.Limits.{point_limit};
 ghost use Rattle.state.specs.State.{numbered};
 
-// A node number. `as`, since the error of `try_from` is none that can be.
+// A node number. as: below 65536, so the error of `try_from` could not occur.
 pub fn narrow(n: usize) -> u16
     requires { n < 65536 }
     ensures { result ≡ n }

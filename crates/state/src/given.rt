@@ -4,11 +4,12 @@ ghost use Rattle.geometry.specs.Domain as totals;
 ghost use Rattle.state.specs.Limits.{front_limit, front_node_limit, point_limit, quad_limit};
 ghost use Rattle.state.specs.State.{lengths};
 ghost use Rattle.state.specs.Call.{held, lent};
+ghost use Rattle.state.specs.Lent.{held_of};
 ghost use Rattle.state.specs.Given as givens;
 
-use crate::Counts;
 use crate::coordinates::wrong_coordinate;
 use crate::fronts::sum_of;
+use crate::{Buffers, Counts};
 
 // Some number is not below `n`. No test ends the loop, so several are done at a time; `any` takes twice as long.
 fn some_from(n: usize, numbers: &[u16]) -> bool
@@ -81,23 +82,19 @@ fn wrong_counts(front_lengths: &[u16], counts: Counts) -> bool
     2048 < sum_of(lengths) || lengths.iter().any(|n| *n < 3)
 }
 
-// Number 25, on buffers of the right lengths.
-pub fn wrong_state(
-    points: &[f64],
-    quads: &[u16],
-    front_nodes: &[u16],
-    front_lengths: &[u16],
-    counts: Counts,
-) -> bool
-    requires { lengths (held points.now quads.now front_nodes.now front_lengths.now counts) ≡ lent }
-    ensures { result ≡ givens.wrong_state (held points.now quads.now front_nodes.now front_lengths.now counts) }
-{
-    if wrong_counts(front_lengths, counts) {
-        return true;
+impl Buffers<'_> {
+    // Number 25, on buffers of the right lengths.
+    pub fn is_wrong(&self, counts: Counts) -> bool
+        requires { lengths (held_of self.now counts) ≡ lent }
+        ensures { result ≡ givens.wrong_state (held_of self.now counts) }
+    {
+        if wrong_counts(self.front_lengths, counts) {
+            return true;
+        }
+        let laid = &self.quads[..counts.quads * 4];
+        let total = sum_of(&self.front_lengths[..counts.fronts]);
+        wrong_nodes(counts.points, laid, &self.front_nodes[..total])
+            || wrong_coordinate(1000000000.0, &self.points[..counts.points * 2])
+            || wrong_sums(counts)
     }
-    let laid = &quads[..counts.quads * 4];
-    let total = sum_of(&front_lengths[..counts.fronts]);
-    wrong_nodes(counts.points, laid, &front_nodes[..total])
-        || wrong_coordinate(1000000000.0, &points[..counts.points * 2])
-        || wrong_sums(counts)
 }

@@ -7,19 +7,20 @@ mod buffers;
 mod coordinates;
 mod fronts;
 mod given;
+mod held;
 mod lent;
 mod refusal;
 
 pub use appending::{narrow, put_all, put_numbers, put_quad};
-pub use buffers::{clear_floats_from, clear_nodes, clear_nodes_from, fill_from};
+pub use buffers::fill_from;
 pub use coordinates::{outside, wrong_coordinate};
-pub use fronts::{front_at, nodes_of, sum_of};
-pub use given::wrong_state;
+pub use fronts::{Fronts, front_at, nodes_of, sum_of};
+pub use held::{Buffers, fit_nodes};
 pub use lent::Lent;
 pub use refusal::Refusal;
 
-// The eight counts of document 01.
-#[derive(Clone, Copy)]
+// The eight counts of document 01; by default none.
+#[derive(Clone, Copy, Default)]
 pub struct Counts {
     pub points: usize,
     pub quads: usize,

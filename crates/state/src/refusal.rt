@@ -31,6 +31,7 @@ pub enum Refusal {
 }
 
 impl Refusal {
+    // as: Rust has no From between an enum and its numbers
     pub fn number(self) -> u32
         ensures { result ≡ number self }
     {

@@ -3,14 +3,13 @@ use mathlib.Core.Path.{◌≡◌, refl, sym, ◌∙◌, ap}
 use mathlib.Core.Bool.{Bool, true, false, not, cond, ◌&&◌}
 use mathlib.Core.List.{List, [], ◌∷◌}
 use mathlib.Core.Option.{none, some}
-use Prim.Native.Nat.{ℕ, zero, suc, ◌+◌, ◌-◌, ◌≤◌, ◌<◌, zero-le, suc-le-suc}
-use native.Mathlib.Nat.{add-zero, zero-add, suc-add}
-use native.Mathlib.Numerals.{add-one}
+use Prim.Native.Nat.{ℕ, zero, suc, ◌+◌, ◌-◌, ◌≤◌, zero-le, suc-le-suc}
+use native.Mathlib.Nat.{zero-add, suc-add}
 use native.Mathlib.Omega.{arith}
 use borrow.Author.Tests.{ne_eqb, ltb-false}
 use lib.Dec.{eqb, ltb}
-use lib.ListN.{length, get_or, take, drop, length-drop, drop_of_length-le}
-use lib.Seq.{drop-cons, drop-drop, slice, take-nil, length-slice, take_all}
+use lib.ListN.{length, take, drop, length-drop}
+use lib.Seq.{drop-drop, slice, take-nil, length-slice, take_all}
 use Rattle.std.specs.Prelude.{Option, Some, None}
 use Rattle.std.specs.List.{position, position_or_len, starts_with}
 use Rattle.text.specs.Fields.{ends_field, field, after_field, field_end, behind}
@@ -65,7 +64,7 @@ module _ (t : List ℕ) (at : ℕ) (h : at ≤ length t) where
   found = position_or_len ends_field (drop at t)
 
   pub end_some : {n : ℕ} → Some n ≡ position ends_field (take (length t - at) (drop at t)) → at + n ≡ field_end t at
-  unfolding field_end found
+  unfolding field_end
   end_some {n} e = by (ltb found (length (drop at t))) (e ∙ rw (tail_is t at))
     where
       by : (b : Bool) → Some n ≡ cond b (Some found) None → at + n ≡ at + length (field (drop at t))
@@ -73,7 +72,7 @@ module _ (t : List ℕ) (at : ℕ) (h : at ≤ length t) where
       by false i = cc
 
   pub end_none : None ≡ position ends_field (take (length t - at) (drop at t)) → length t ≡ field_end t at
-  unfolding field_end found
+  unfolding field_end
   end_none e = by (ltb found (length (drop at t))) refl (e ∙ rw (tail_is t at))
     where
       by : (b : Bool) → ltb found (length (drop at t)) ≡ b → ◌≡◌ {A = Option ℕ} None (cond b (Some found) None) → length t ≡ at + length (field (drop at t))

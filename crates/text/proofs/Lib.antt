@@ -4,4 +4,3 @@ pub mod Midst
 pub mod Digits
 pub mod Writings
 pub mod HexLaws
-pub mod Stores

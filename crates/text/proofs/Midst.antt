@@ -1,7 +1,7 @@
 -- Text put piece by piece into a buffer: what is left of it says how far it is.
 use mathlib.Core.Path.{◌≡◌, refl, sym, ◌∙◌, ap}
 use mathlib.Core.List.{List, [], ◌∷◌, ◌++◌, append-nil, append_assoc}
-use Prim.Native.Nat.{ℕ, suc, ◌+◌, ◌-◌, ◌<◌, ◌≤◌}
+use Prim.Native.Nat.{ℕ, suc, ◌+◌, ◌-◌, ◌≤◌}
 use native.Mathlib.Nat.{add-suc, suc-add, add-zero}
 use native.Mathlib.Omega.{arith}
 use borrow.Rule.Slice.PartMut.{put_mid, Post-is}
@@ -18,11 +18,6 @@ sets-append (v ∷ vs) ws l i = sets-append vs ws (set l i v) (suc i) ∙ rw (su
 set-behind : {A : Type 0} (xs d : List A) (a j : ℕ) (v : A) → a + length xs ≤ j → set (sets d a xs) j v ≡ sets (set d j v) a xs
 set-behind [] d a j v h = refl
 set-behind (x ∷ xs) d a j v h = set-behind xs (set d a x) (suc a) j v (omega arith) ∙ ap (λ t. sets t (suc a) xs) (set_comm d a j x v (λ e. omega arith))
-
--- ---- a byte
-
-pub byte_put : (d : List ℕ) (k v : ℕ) → Put d k (v ∷ []) (set d k v) (k + 1)
-byte_put d k v = record { bytes = refl; place = refl }
 
 -- a text whose last byte is stored first
 pub last_first : (d xs : List ℕ) (a j v : ℕ) → j ≡ a + length xs → sets (set d j v) a xs ≡ sets d a (xs ++ (v ∷ []))

@@ -2,7 +2,7 @@
 use mathlib.Core.Path.{◌≡◌, refl, sym, ◌∙◌, ap}
 use mathlib.Core.Bool.{Bool, true, false, cond, ◌&&◌, ◌||◌, true≢false}
 use mathlib.Core.List.{List, [], ◌∷◌, ◌++◌, append_assoc, append-nil}
-use mathlib.Core.Option.{Option, none, some}
+use mathlib.Core.Option.{none, some, none-ne-some}
 use Prim.Native.Nat.{ℕ, zero, suc, ◌+◌, ◌-◌, ◌*◌, ◌/◌, ◌%◌, ◌^◌, ◌≤◌, ◌<◌, zero-le}
 use native.Mathlib.Nat.{pow-suc, pow-le-pow_right}
 use native.Mathlib.Omega.{arith}
@@ -13,9 +13,6 @@ use lib.ListN.{length, get_or, drop, length-append, drop_of_length-le}
 use lib.Seq.{slice, slice-cons, length-slice, drop-cons}
 use Rattle.text.specs.Decimal.{digits, decimal_text, spelled, same_bytes, natural_of}
 use Rattle.text.specs.Number.{spelling}
-
-none_some : {A : Type 0} {n : A} → ◌≡◌ {A = Option A} none (some n) → ⊥
-none_some e = let z : ◌≡◌ {A = ℕ} 0 1 = cc in omega arith
 
 -- ---- a byte that is a digit
 
@@ -31,8 +28,8 @@ unfolding spelling
 first_spelled v d ds {n} e = by (ltb d 48) (ltb 57 d) refl refl e
   where
     by : (a b : Bool) → ltb d 48 ≡ a → ltb 57 d ≡ b → cond (a || b) none (spelling (v * 10 + (d - 48)) ds) ≡ some n → Digit d × (spelling (v * 10 + (d - 48)) ds ≡ some n)
-    by true b l h e = absurd (none_some e)
-    by false true l h e = absurd (none_some e)
+    by true b l h e = absurd (none-ne-some _ e)
+    by false true l h e = absurd (none-ne-some _ e)
     by false false l h e = (record { from = ltb-false d 48 l; to = ltb-false 57 d h }, e)
 
 spelling_digit : (v d : ℕ) (ds : List ℕ) → Digit d → spelling v (d ∷ ds) ≡ spelling (v * 10 + (d - 48)) ds
@@ -225,7 +222,7 @@ empty_none most (d ∷ ds) l = absurd (omega arith)
 
 module _ (most : ℕ) (f : List ℕ) where
   pub odd_none : spelling 0 f ≡ none → natural_of most f ≡ none
-  odd_none s = number_none most f (λ n e h. let d = digits_spell 20 n 0 in none_some (sym s ∙ ap (spelling 0) (sym e) ∙ d.1))
+  odd_none s = number_none most f (λ n e h. let d = digits_spell 20 n 0 in none-ne-some _ (sym s ∙ ap (spelling 0) (sym e) ∙ d.1))
 
   module _ (small : most < 10000000) where
     pub long_none : 7 < length f → natural_of most f ≡ none

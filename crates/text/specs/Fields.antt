@@ -1,5 +1,6 @@
 -- Where a field of a text ends, and words at its head. Definitions only.
-use Rattle.std.specs.Prelude.{ℕ, ◌+◌, Bool, cond, ◌||◌, List, [], ◌∷◌, eqb, length, drop}
+use Rattle.std.specs.Prelude as rust
+use Rattle.std.specs.Prelude.{ℕ, ◌+◌, Bool, cond, ◌||◌, List, [], ◌∷◌, eqb, length, drop, Some, None}
 use Rattle.std.proofs.Math.Option.{Option, none, some}
 
 -- a tab or an LF ends a field
@@ -25,3 +26,8 @@ unfoldable pub behind : List ℕ → List ℕ → Option (List ℕ)
 behind [] t = some t
 behind (w ∷ ws) [] = none
 behind (w ∷ ws) (b ∷ bs) = cond (eqb w b) (behind ws bs) none
+
+-- the place behind a word that is looked for at `at`, by the text behind it, if any
+abbrev pub place_behind : List ℕ → ℕ → Option (List ℕ) → rust.Option ℕ
+place_behind w at none = None
+place_behind w at (some rest) = Some (at + length w)

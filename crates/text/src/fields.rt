@@ -1,8 +1,8 @@
-// Where a field of a text ends, and words in a text.
-ghost use Rattle.std.specs.Prelude.{◌≡◌, cond, ◌+◌, ◌≤◌, ◌==◌, ◌||◌, length, drop};
+// Where a field of a text ends, and words in a text. A text is only read: each function answers the
+// place behind what it read, as document 01's definitions go on by what is left of a text, so no reader holds text and place together.
+ghost use Rattle.std.specs.Prelude.{◌≡◌, ◌≤◌, ◌==◌, ◌||◌, length, drop};
 ghost use Rattle.std.specs.List.{position};
-ghost use Rattle.std.proofs.Math.Option.{none, some};
-ghost use Rattle.text.specs.Fields.{field_end, behind};
+ghost use Rattle.text.specs.Fields.{field_end, behind, place_behind};
 
 // How many bytes stand before the first tab or LF, where there is one.
 fn before_end(rest: &[u8]) -> Option<usize>
@@ -23,10 +23,14 @@ pub fn field_end(text: &[u8], at: usize) -> usize
     }
 }
 
-// Whether `word` stands in the text from `at` on.
-pub fn begins_with(text: &[u8], at: usize, word: &[u8]) -> bool
+// The place behind `word`, where it stands in the text from `at` on.
+pub fn behind(text: &[u8], at: usize, word: &[u8]) -> Option<usize>
     requires { at ≤ length text.now }
-    ensures { behind word.now (drop at text.now) ≡ cond result (some (drop (at + length word.now) text.now)) none }
+    ensures { result ≡ place_behind word.now at (behind word.now (drop at text.now)) }
 {
-    text[at..].starts_with(word)
+    if text[at..].starts_with(word) {
+        Some(at + word.len())
+    } else {
+        None
+    }
 }

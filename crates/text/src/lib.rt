@@ -4,13 +4,13 @@
 mod fields;
 mod hexadecimal;
 mod numbers;
-mod putting;
+mod read;
 mod storing;
 mod writer;
 
-pub use fields::{begins_with, field_end};
-pub use hexadecimal::hex;
+pub use fields::{behind, field_end};
+pub use hexadecimal::{bits_of, hex};
 pub use numbers::natural;
-pub use putting::{bits_of, put_byte, put_bytes, put_decimal, put_hex, put_zeros};
-pub use storing::{Counted, store, store_point};
-pub use writer::Writer;
+pub use read::Read;
+pub use storing::{store, store_point};
+pub use writer::{Writer, put_zeros};

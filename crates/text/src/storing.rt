@@ -2,13 +2,6 @@
 ghost use Rattle.std.specs.Prelude.{◌≡◌, [], ◌∷◌, ◌*◌, ◌/◌, length, set, Float};
 ghost use Rattle.std.proofs.lemmas.List.Edits.{sets};
 
-// How many things were read, and the place behind the last of them.
-#[derive(Clone, Copy, PartialEq, Eq, Debug)]
-pub struct Counted {
-    pub next: usize,
-    pub count: usize,
-}
-
 // A number at place `i`.
 pub fn store(numbers: &mut [u16], i: usize, n: u16)
     ensures { numbers.new ≡ set numbers.old i n }

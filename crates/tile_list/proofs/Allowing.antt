@@ -5,6 +5,7 @@ use Prim.Native.Nat.{◌*◌, ◌≤◌, ◌<◌}
 use native.Mathlib.Omega.{arith}
 use borrow.Author.Tests.{eq-eqb, ne_eqb, le-leb, lt-leb}
 use lib.ListN.{length}
+use Rattle.state.specs.Limits.{quad_limit}
 use Rattle.state.specs.State.{Held, lengths, quads_of}
 use Rattle.state.specs.Given.{wrong_state}
 use Rattle.state.specs.Call.{lent}
@@ -36,9 +37,9 @@ module _ (b o : Held) where
         unfolding allowed_held
         all_tested e = rw (w, v, ne_eqb o.counts.fronts 0 n, le-leb b.counts.passes_begun pass_limit e)
 
-    pub quads_within : lengths b ≡ lent → b.counts.quads * 4 ≤ length b.quads
+    pub quads_within : lengths b ≡ lent → (b.counts.quads ≤ quad_limit) × (b.counts.quads * 4 ≤ length b.quads)
     quads_within l =
         let s = sound b l w in
         let q = s.quads in
         let k = s.quads_long in
-        omega arith
+        (q, omega arith)

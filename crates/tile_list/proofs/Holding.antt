@@ -7,13 +7,11 @@ use native.Mathlib.Nat.{zero-add}
 use native.Mathlib.Omega.{arith}
 use borrow.Author.Tests.{eq-eqb}
 use lib.Dec.{eqb, leb}
-use lib.Ieee.{Float}
 use lib.ListN.{length, take, drop, replicate, length-replicate, length-map}
-use lib.Seq.{sets, sets-eq, take_at}
+use lib.Seq.{sets, sets-eq, take_at, length-take-le}
 use Rattle.float.specs.Helpers.{decimal}
-use Rattle.state.specs.declared.Counts.{Counts}
 use Rattle.state.specs.Limits.{front_limit, front_node_limit, points_length, quads_length}
-use Rattle.state.specs.State.{State, Held, quad_nodes, joined, padded, nodes, lengths, counts_of, written, reading, quads_of}
+use Rattle.state.specs.State.{State, Held, cut, quad_nodes, joined, padded, nodes, lengths, counts_of, written, reading, quads_of}
 use Rattle.state.specs.Given.{wrong_counts, wrong_values, wrong_state}
 use Rattle.state.specs.Call.{held, lent}
 use Rattle.state.specs.Sound.{Sound, sizes_of}
@@ -22,9 +20,11 @@ use Rattle.state.proofs.Growing.{length-numbers}
 use Rattle.state.proofs.Reading.{Counted, sound_counted, even_read, fronts_read, sizes_long}
 use Rattle.state.proofs.Sounding.{sound}
 use Rattle.state.proofs.Zeros.{same_held, lengths-held, counts_held}
-use Rattle.tile_text.specs.TileList.{TileList, with_fronts, allowed, every_quad, four_different, pass_limit}
+use Rattle.answer_text.proofs.Lengths.{fronts_length}
+use Rattle.tile_text.specs.TileList.{TileList, loops_text, with_fronts, allowed, every_quad, four_different, pass_limit}
 use Rattle.tile_text.proofs.Allowing.{Fair, Allowed, allowed_is, both_true, not_true}
-use Rattle.tile_list.specs.Steps.{with_loops, allowed_held, list_in}
+use Rattle.tile_list.specs.declared.list.HeldList.{HeldList}
+use Rattle.tile_list.specs.Steps.{state_in, loops_in, list_of, list_in, allowed_held}
 
 -- ---- zeros that a list is stored in
 
@@ -102,23 +102,23 @@ module _ (l : TileList) (a : allowed l ≡ true) where
 
 -- ---- what allowed buffers hold
 
-module _ (p : List Float) (q n k m f : List ℕ) (c : Counts) (loops : ℕ) where
+module _ (l : HeldList) where
   abbrev b : Held
-  b = held p q m f c
+  b = state_in l
 
   abbrev o : Held
-  o = held p q n k (with_loops c loops)
+  o = loops_in l
 
   same_but_fronts : with_fronts (reading o).fronts (reading b) ≡ reading o
   unfolding reading
   same_but_fronts = refl
 
-  others : ((reading b).passes ≡ c.passes_begun) × ((reading b).quads ≡ quads_of c.quads q)
+  others : ((reading b).passes ≡ l.counts.passes_begun) × ((reading b).quads ≡ quads_of l.counts.quads l.quads.now)
   unfolding reading
   others = (refl, refl)
 
-  module _ (long : lengths b ≡ lent) (along : lengths o ≡ lent) (h : allowed_held b o ≡ true) where
-    split : (wrong_state b ≡ false) × (wrong_state o ≡ false) × (not (eqb loops 0) ≡ true) × (leb c.passes_begun pass_limit ≡ true) × (every_quad four_different (quads_of c.quads q) ≡ true)
+  module _ (h : allowed_held b o ≡ true) where
+    split : (wrong_state b ≡ false) × (wrong_state o ≡ false) × (not (eqb l.loops 0) ≡ true) × (leb l.counts.passes_begun pass_limit ≡ true) × (every_quad four_different (quads_of l.counts.quads l.quads.now) ≡ true)
     unfolding allowed_held
     split =
         let d = both_true _ _ h in
@@ -128,14 +128,23 @@ module _ (p : List Float) (q n k m f : List ℕ) (c : Counts) (loops : ℕ) wher
         (not_true _ w.0, not_true _ w.1, t.1, s.1, d.1)
 
     pub state_sound : Sound b
-    state_sound = sound b long split.0
+    state_sound = sound b l.state_long split.0
 
     pub loops_sound : Sound o
-    loops_sound = sound o along split.1
+    loops_sound = sound o l.loops_long split.1
 
-    pub allowed_in : allowed (list_in b o) ≡ true
+    pub loops_short : length (loops_text (cut (take l.loops l.loop_lengths.now) l.loop_nodes.now)) ≤ 12320
+    loops_short =
+        let n = loops_sound.fronts in
+        let k = loops_sound.front_lengths_long in
+        let sum = loops_sound.front_nodes in
+        let long = length-take-le l.loops l.loop_lengths.now (omega arith) in
+        let t = fronts_length 115 (take l.loops l.loop_lengths.now) l.loop_nodes.now l.nodes_fit in
+        omega arith
+
+    pub allowed_in : allowed (list_of l) ≡ true
     unfolding allowed
     allowed_in =
         let even = even_read b (sound_counted b state_sound) in
-        rw (same_but_fronts, wrong_again b long split.0, wrong_again o along split.1, fronts_read o (sound_counted o loops_sound), split.2, others.0, split.3, others.1, split.4)
+        rw (same_but_fronts, wrong_again b l.state_long split.0, wrong_again o l.loops_long split.1, fronts_read o (sound_counted o loops_sound), split.2, others.0, split.3, others.1, split.4)
         (eq-eqb (length (reading b).points) (nodes (reading b) * 2) (sym even))

@@ -1,27 +1,26 @@
 -- What the two tests of an allowed list ask of its buffers, and the number that they give.
-use mathlib.Core.Path.{◌≡◌, refl, ◌∙◌, ap}
+use mathlib.Core.Path.{◌≡◌, refl, sym, ◌∙◌, ap}
 use mathlib.Core.Bool.{true, false}
 use mathlib.Core.List.{List, [], ◌∷◌, ◌++◌, map, append_assoc}
 use Prim.Native.Nat.{ℕ, zero, suc, ◌*◌, ◌≤◌, ◌<◌}
 use native.Mathlib.Omega.{arith}
-use lib.Ieee.{Float}
 use lib.ListN.{length, get_or, take, drop, length-drop}
 use lib.Seq.{length-take-le, get_or-take}
 use Rattle.geometry.specs.Domain.{sum_of}
-use Rattle.state.specs.declared.Counts.{Counts}
-use Rattle.state.specs.State.{Held, Quad, quad_nodes, lengths, reading, cut, quads_of}
+use Rattle.state.specs.State.{Quad, quad_nodes, reading, cut, quads_of}
 use Rattle.state.specs.Outcome.{first_true}
-use Rattle.state.specs.Call.{held, lent}
 use Rattle.state.specs.Sound.{Sound}
 use Rattle.state.proofs.Reading.{sound_counted, nodes-read, quad-nodes-read, length-quads_of}
 use Rattle.state.proofs.Repeating.{all_below}
 use Rattle.input.specs.Limit.{default_limit}
 use Rattle.rules.specs.Checks.{quad_passes}
+use Rattle.answer_text.proofs.LineLaws.{all_quads, quads_begin}
 use Rattle.pair_counts.specs.Twice.{all_twice}
 use Rattle.tile_text.specs.TileList.{TileList, every_quad}
 use Rattle.tile_text.proofs.Allowing.{allowed_is}
 use Rattle.tile_list.specs.Recheck.{rings, wrong_pair, wrong_corner, list_number}
-use Rattle.tile_list.specs.Steps.{with_loops, allowed_held, list_in}
+use Rattle.tile_list.specs.declared.list.HeldList.{HeldList}
+use Rattle.tile_list.specs.Steps.{state_in, loops_in, list_of, allowed_held}
 use Rattle.tile_list.proofs.Holding.{state_sound, loops_sound, allowed_in}
 
 -- ---- quads as rings of four nodes
@@ -49,39 +48,39 @@ cut_fours (suc n) q h =
 
 -- ---- the buffers of a list that is allowed
 
-module _ (p : List Float) (q n k m f h : List ℕ) (c : Counts) (loops : ℕ) where
-  abbrev b : Held
-  b = held p q m f c
+module _ (l : HeldList) (a : allowed_held (state_in l) (loops_in l) ≡ true) where
+  abbrev pub sb : Sound (state_in l)
+  sb = state_sound l a
 
-  abbrev o : Held
-  o = held p q n k (with_loops c loops)
+  abbrev pub so : Sound (loops_in l)
+  so = loops_sound l a
 
-  module _ (long : lengths b ≡ lent) (along : lengths o ≡ lent) (a : allowed_held b o ≡ true) where
-    abbrev pub sb : Sound b
-    sb = state_sound p q n k m f c loops long along a
+  abbrev n : ℕ
+  n = l.counts.quads
 
-    abbrev pub so : Sound o
-    so = loops_sound p q n k m f c loops long along a
+  abbrev q : List ℕ
+  q = l.quads.now
 
-    pub quads_within : c.quads * 4 ≤ length q
-    quads_within = let x = sb.quads in let l = sb.quads_long in omega arith
+  pub quads_within : n * 4 ≤ length q
+  quads_within = let x = sb.quads in let k = sb.quads_long in omega arith
 
-    pub quads_below_lem : (i : ℕ) → i < c.quads * 4 → get_or q i 0 < c.points
-    quads_below_lem i l =
-        let w = (allowed_is (list_in b o) (allowed_in p q n k m f c loops long along a)).state.quads_below in
-        let v = rw (nodes-read b (sound_counted b sb), quad-nodes-read b (sound_counted b sb)) at w in
-        let t = length-take-le (c.quads * 4) q quads_within in
-        rw (get_or-take (c.quads * 4) q i 0 l) at (all_below c.points (take (c.quads * 4) q) v i (omega arith))
+  pub quads_below_lem : (i : ℕ) → i < n * 4 → get_or q i 0 < l.counts.points
+  quads_below_lem i h =
+      let b = state_in l in
+      let w = (allowed_is (list_of l) (allowed_in l a)).state.quads_below in
+      let v = rw (nodes-read b (sound_counted b sb), quad-nodes-read b (sound_counted b sb)) at w in
+      let t = length-take-le (n * 4) q quads_within in
+      rw (get_or-take (n * 4) q i 0 h) at (all_below l.counts.points (take (n * 4) q) v i (omega arith))
 
-    module _ (fours : take c.quads h ≡ map length (map quad_nodes (quads_of c.quads q))) where
-      pub sum_quads : sum_of (take c.quads h) ≡ c.quads * 4
-      sum_quads = ap sum_of fours ∙ sum_fours (quads_of c.quads q) ∙ ap (λ (x : ℕ). x * 4) (length-quads_of c.quads q)
+  module _ (fours : take n l.quad_lengths.now ≡ map length (map quad_nodes (quads_of n q))) where
+    pub sum_quads : sum_of (take n l.quad_lengths.now) ≡ n * 4
+    sum_quads = ap sum_of fours ∙ sum_fours (quads_of n q) ∙ ap (λ (x : ℕ). x * 4) (length-quads_of n q)
 
-      pub rings_are : cut (take loops k) n ++ cut (take c.quads h) q ++ cut (take c.fronts f) m ≡ rings (list_in b o)
-      unfolding reading
-      rings_are =
-          append_assoc (cut (take loops k) n) (cut (take c.quads h) q) (cut (take c.fronts f) m)
-          ∙ ap (λ x. cut (take loops k) n ++ (x ++ cut (take c.fronts f) m)) (ap (λ x. cut x q) fours ∙ cut_fours c.quads q quads_within)
+    pub rings_are : cut (take l.loops l.loop_lengths.now) l.loop_nodes.now ++ cut (take n l.quad_lengths.now) q ++ cut (take l.counts.fronts l.front_lengths.now) l.front_nodes.now ≡ rings (list_of l)
+    unfolding reading
+    rings_are =
+        append_assoc (cut (take l.loops l.loop_lengths.now) l.loop_nodes.now) (cut (take n l.quad_lengths.now) q) (cut (take l.counts.fronts l.front_lengths.now) l.front_nodes.now)
+        ∙ ap (λ x. cut (take l.loops l.loop_lengths.now) l.loop_nodes.now ++ (x ++ cut (take l.counts.fronts l.front_lengths.now) l.front_nodes.now)) (ap (λ x. cut x q) fours ∙ cut_fours n q quads_within)
 
 -- ---- the number
 
@@ -100,7 +99,7 @@ module _ (l : TileList) where
     none_found e = rw (t, e)
 
 -- the corners are tested on the points and quads in use
-pub corners_are : (p : List Float) (q m f : List ℕ) (c : Counts)
-    → every_quad (quad_passes default_limit (take (c.points * 2) p)) (quads_of c.quads q) ≡ every_quad (quad_passes default_limit (reading (held p q m f c)).points) (reading (held p q m f c)).quads
+pub corners_are : (l : HeldList) → l.counts.quads * 4 ≤ length l.quads.now
+    → every_quad (quad_passes default_limit (take (l.counts.points * 2) l.points.now)) (all_quads (take (l.counts.quads * 4) l.quads.now)) ≡ every_quad (quad_passes default_limit (list_of l).state.points) (list_of l).state.quads
 unfolding reading
-corners_are p q m f c = refl
+corners_are l h = ap (every_quad (quad_passes default_limit (take (l.counts.points * 2) l.points.now))) (sym (quads_begin l.counts.quads l.quads.now h))

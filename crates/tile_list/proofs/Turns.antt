@@ -1,48 +1,44 @@
--- One quad after another.
-use mathlib.Core.Path.{◌≡◌, refl, sym, ◌∙◌, ap}
-use mathlib.Core.Bool.{Bool, true, false, ◌&&◌, ◌||◌, not}
-use mathlib.Core.List.{List, [], ◌∷◌, ◌++◌}
-use Prim.Native.Nat.{ℕ, suc, ◌+◌, ◌/◌, ◌<◌}
+-- Each quad of a slice.
+use mathlib.Core.Path.{◌≡◌, refl, sym, ap, subst}
+use mathlib.Core.Bool.{Bool, true, false, ◌||◌, not}
+use mathlib.Core.List.{List, [], ◌∷◌}
+use Prim.Native.Nat.{ℕ, zero, suc, ◌+◌, ◌*◌, ◌<◌, ◌≤◌}
 use native.Mathlib.Omega.{arith}
-use lib.ListN.{length, get_or, length-append, get_or-append}
-use lib.Seq.{get_or-append-add}
+use lib.ListN.{length, get_or, take, drop, length-drop}
+use lib.Seq.{get_or-take}
 use lib.Dec.{eqb}
 use borrow.Author.Tests.{eq-eqb, ne_eqb}
-use Rattle.state.specs.State.{Quad, quad, quads_of}
+use Rattle.std.specs.List.{list_all}
+use Rattle.std.specs.Simd.{first_chunks}
+use Rattle.std.proofs.lemmas.List.{get_or-drop}
+use Rattle.state.specs.State.{Quad, quads_of}
 use Rattle.state.specs.Given.{member, repeated}
-use Rattle.answer_text.proofs.LineLaws.{all_quads}
+use Rattle.tile_text.specs.Reading.{quad_of}
 use Rattle.tile_text.specs.TileList.{every_quad}
 
-module _ (p : Quad → Bool) where
-  -- a quad, and the quads behind it
-  pub turn : (s q r : List ℕ) → s ≡ q ++ r → length q ≡ 4
-      → every_quad p (all_quads s) ≡ (p (quad (get_or q 0 0) (get_or q 1 0) (get_or q 2 0) (get_or q 3 0)) && every_quad p (all_quads r))
-  unfolding every_quad quads_of
-  turn s [] r e h = absurd (omega arith)
-  turn s (a ∷ []) r e h = absurd (omega arith)
-  turn s (a ∷ b ∷ []) r e h = absurd (omega arith)
-  turn s (a ∷ b ∷ c ∷ []) r e h = absurd (omega arith)
-  turn s (a ∷ b ∷ c ∷ d ∷ []) r e h = let m : suc (suc (suc (suc (length r)))) / 4 ≡ suc (length r / 4) = omega arith in rw (e, m)
-  turn s (a ∷ b ∷ c ∷ d ∷ f ∷ q) r e h = absurd (omega arith)
+-- quads as a slice has them, four nodes each
+four_is : (xs : List ℕ) → 4 ≤ length xs → quad_of (take 4 xs) ≡ quad_of xs
+four_is [] h = absurd (omega arith)
+four_is (a ∷ []) h = absurd (omega arith)
+four_is (a ∷ b ∷ []) h = absurd (omega arith)
+four_is (a ∷ b ∷ c ∷ []) h = absurd (omega arith)
+four_is (a ∷ b ∷ c ∷ d ∷ xs) h = refl
 
-  module _ (s q r : List ℕ) (e : s ≡ q ++ r) (h : length q ≡ 4) {v : Bool} (tested : v ≡ p (quad (get_or q 0 0) (get_or q 1 0) (get_or q 2 0) (get_or q 3 0))) where
-    pub fails : v ≡ false → every_quad p (all_quads s) ≡ false
-    fails f = turn s q r e h ∙ rw (← tested, f)
+pub all_fours : (p : Quad → Bool) (n : ℕ) (xs : List ℕ) → n * 4 ≤ length xs → list_all (λ q. p (quad_of q)) (first_chunks 4 n xs) ≡ every_quad p (quads_of n xs)
+unfolding every_quad quads_of
+all_fours p zero xs h = refl
+all_fours p (suc n) xs h =
+    let l = length-drop 4 xs in
+    rw (four_is xs (omega arith), all_fours p n (drop 4 xs) (omega arith))
 
-    pub goes_on : v ≡ true → every_quad p (all_quads s) ≡ every_quad p (all_quads r)
-    goes_on f = turn s q r e h ∙ rw (← tested, f)
-
-  pub all_turns : (r : List ℕ) → length r < 4 → every_quad p (all_quads r) ≡ true
-  unfolding every_quad quads_of
-  all_turns r h = let m : length r / 4 ≡ 0 = omega arith in rw m
-
--- what holds of each place of a list holds of each place of its parts
-module _ (P : ℕ → Type 0) (s q r : List ℕ) (e : s ≡ q ++ r) (h : (i : ℕ) → i < length s → P (get_or s i 0)) where
-  pub of_first : (i : ℕ) → i < length q → P (get_or q i 0)
-  of_first i l = rw (e, get_or-append q r 0 i l) at (h i (let k = ap length e ∙ length-append q r in omega arith))
-
-  pub of_rest : (i : ℕ) → i < length r → P (get_or r i 0)
-  of_rest i l = rw (e, get_or-append-add q r i 0) at (h (length q + i) (let k = ap length e ∙ length-append q r in omega arith))
+-- what holds of each number of a list holds of those of its quads
+pub of_fours : (P : ℕ → Type 0) (n : ℕ) (xs : List ℕ) → n * 4 ≤ length xs → ((i : ℕ) → i < length xs → P (get_or xs i 0))
+    → (k : ℕ) → k < length (first_chunks 4 n xs) → (d : List ℕ) (i : ℕ) → i < 4 → P (get_or (get_or (first_chunks 4 n xs) k d) i 0)
+of_fours P zero xs h e k l d i j = absurd (omega arith)
+of_fours P (suc n) xs h e zero l d i j = rw (get_or-take 4 xs i 0 j) (e i (omega arith))
+of_fours P (suc n) xs h e (suc k) l d i j =
+    let m = length-drop 4 xs in
+    of_fours P n (drop 4 xs) (omega arith) (λ x y. subst P (sym (get_or-drop 4 xs x 0)) (e (4 + x) (omega arith))) k (omega arith) d i j
 
 -- ---- four different nodes
 

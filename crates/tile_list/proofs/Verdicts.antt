@@ -1,34 +1,32 @@
 -- Which texts are readable, over the buffers that a list was read into.
 use mathlib.Core.Path.{◌≡◌, refl, sym, ◌∙◌, ap}
 use mathlib.Core.Bool.{Bool, true, false, cond, ◌&&◌, true≢false}
-use mathlib.Core.List.{List, [], ◌∷◌, ◌++◌, map}
+use mathlib.Core.List.{List, [], ◌∷◌, map}
 use mathlib.Core.Option.{Option, none, some, none-ne-some, some-injective}
 use Prim.Native.Nat.{ℕ, zero, suc, ◌*◌, ◌≤◌, ◌<◌}
 use native.Mathlib.Omega.{arith}
-use lib.Dec.{T, eqb}
+use lib.Dec.{eqb}
 use lib.Pointwise.{pointwise, bytes_decides}
-use lib.Ieee.{Float, nan, binary64, fits, of_bits}
+use lib.Ieee.{nan, binary64, of_bits}
 use lib.Ieee.Bits.{of_bits-fits}
 use lib.ListN.{length, get_or, take, length-map, replicate, length-replicate}
 use lib.Seq.{sets, length-take-le, get_or-take}
 use Rattle.float.specs.Helpers.{decimal}
 use Rattle.float.proofs.Literals.{zero_is}
-use Rattle.state.specs.declared.Counts.{Counts}
 use Rattle.state.specs.Limits.{front_limit, front_node_limit, points_length, quads_length, quad_limit}
-use Rattle.state.specs.State.{Held, quad_nodes, joined, lengths, written, reading, quads_of, cut}
-use Rattle.state.specs.Call.{held, lent}
+use Rattle.state.specs.State.{Held, quad_nodes, joined, written, reading, quads_of}
 use Rattle.state.proofs.Stores.{front_part}
 use Rattle.text.specs.Decimal.{same_bytes}
-use Rattle.answer_text.specs.AnswerText.{state_text}
-use Rattle.tile_text.specs.TileList.{TileList, with_fronts, loops_text, list_text, allowed}
+use Rattle.tile_text.specs.TileList.{TileList, with_fronts, list_text, allowed}
 use Rattle.tile_text.specs.Reading.{fields_of, worded, coordinate, said, read_list}
 use Rattle.tile_text.specs.declared.list.ListRead.{ListRead}
 use Rattle.tile_text.specs.Readable.{F64s}
 use Rattle.tile_text.specs.Fields.{Lists, lists, ListReadIs}
 use Rattle.tile_text.proofs.Allowing.{allowed_is, plain}
 use Rattle.tile_text.proofs.Readable.{read_only, read_back}
-use Rattle.tile_list.specs.Steps.{with_loops, allowed_held, list_in, no_lists, list_read, ReadableIs}
-use Rattle.tile_list.proofs.Holding.{allowed-held, held-rings, list_held, allowed_in}
+use Rattle.tile_list.specs.declared.list.HeldList.{HeldList}
+use Rattle.tile_list.specs.Steps.{state_in, loops_in, list_of, allowed_held, no_lists, ReadFrom, ReadableIs}
+use Rattle.tile_list.proofs.Holding.{allowed-held, held-rings, list_held, state_sound, allowed_in}
 
 -- ---- what is read from a text is made of f64s
 
@@ -60,30 +58,26 @@ get_or_other (a ∷ l) (suc i) x y h = get_or_other l i x y (omega arith)
 
 -- ---- the buffers after reading
 
-module _ (t : List ℕ) (p : List Float) (q n k m f h : List ℕ) (c : Counts) (loops : ℕ) where
+module _ (t : List ℕ) (v : HeldList) where
   abbrev b : Held
-  b = held p q m f c
+  b = state_in v
 
   abbrev o : Held
-  o = held p q n k (with_loops c loops)
+  o = loops_in v
 
-  pub text_is : loops_text (cut (take loops k) n) ++ state_text (reading b) ≡ list_text (list_in b o)
-  unfolding list_text reading
-  text_is = refl
-
-  pub points_fit : ((i : ℕ) → T (fits binary64 (get_or p i nan))) → c.points * 2 ≤ length p → F64s (reading b).points
+  points_fit : v.counts.points * 2 ≤ length v.points.now → F64s (reading b).points
   unfolding reading
-  points_fit g h i l =
-      let e = length-take-le (c.points * 2) p h in
-      rw (get_or-take (c.points * 2) p i (decimal 0 0) (omega arith), get_or_other p i (decimal 0 0) nan (omega arith)) (g i)
+  points_fit h i l =
+      let e = length-take-le (v.counts.points * 2) v.points.now h in
+      rw (get_or-take (v.counts.points * 2) v.points.now i (decimal 0 0) (omega arith), get_or_other v.points.now i (decimal 0 0) nan (omega arith)) (v.points_fit i)
 
-  module _ (is : ListReadIs t no_lists (lists n k p q h m f) (list_read loops c)) where
+  module _ (is : ReadFrom t v) where
     pub record Stored (l : TileList) : Type 0 where
       pub allows : allowed l ≡ true
       pub writes : list_text l ≡ t
       pub state : b ≡ written l.state
       pub others : o ≡ written (with_fronts l.loops l.state)
-      pub quad_lengths : h ≡ sets no_lists.quad_lengths 0 (map length (map quad_nodes l.state.quads))
+      pub quad_lengths : v.quad_lengths.now ≡ sets no_lists.quad_lengths 0 (map length (map quad_nodes l.state.quads))
 
     pub stored : (l : TileList) → read_list t ≡ some l → Stored l
     stored l e =
@@ -107,7 +101,7 @@ module _ (t : List ℕ) (p : List Float) (q n k m f h : List ℕ) (c : Counts) (
           quad_lengths = ap (λ (x : Lists). x.quad_lengths) g;
         }
 
-    list_in_lem : (l : TileList) → Stored l → list_in b o ≡ l
+    list_in_lem : (l : TileList) → Stored l → list_of v ≡ l
     list_in_lem l s = rw (s.state, s.others) (list_held l s.allows)
 
     allowed_then : (l : TileList) → Stored l → allowed_held b o ≡ true
@@ -117,18 +111,18 @@ module _ (t : List ℕ) (p : List Float) (q n k m f h : List ℕ) (c : Counts) (
     pub allowed-read : (l : TileList) → read_list t ≡ some l → allowed_held b o ≡ true
     allowed-read l e = allowed_then l (stored l e)
 
-    fours_of : (l : TileList) → Stored l → take c.quads h ≡ map length (map quad_nodes l.state.quads)
+    fours_of : (l : TileList) → Stored l → take v.counts.quads v.quad_lengths.now ≡ map length (map quad_nodes l.state.quads)
     unfolding written
     fours_of l s =
         let few = (allowed_is l s.allows).state.quads in
         let n = length-map l.state.quads quad_nodes in
         let k = length-map (map quad_nodes l.state.quads) length in
-        let count : c.quads ≡ length l.state.quads = ap (λ (x : Held). x.counts.quads) s.state in
-        front_part no_lists.quad_lengths (map length (map quad_nodes l.state.quads)) h c.quads (omega (arith, length-replicate {A = ℕ} quad_limit 0)) (omega arith) s.quad_lengths
+        let count : v.counts.quads ≡ length l.state.quads = ap (λ (x : Held). x.counts.quads) s.state in
+        front_part no_lists.quad_lengths (map length (map quad_nodes l.state.quads)) v.quad_lengths.now v.counts.quads (omega (arith, length-replicate {A = ℕ} quad_limit 0)) (omega arith) s.quad_lengths
 
-    pub fours_read : read_list t ≡ some (list_in b o) → take c.quads h ≡ map length (map quad_nodes (quads_of c.quads q))
+    pub fours_read : read_list t ≡ some (list_of v) → take v.counts.quads v.quad_lengths.now ≡ map length (map quad_nodes (quads_of v.counts.quads v.quads.now))
     unfolding reading
-    fours_read e = fours_of (list_in b o) (stored (list_in b o) e)
+    fours_read e = fours_of (list_of v) (stored (list_of v) e)
 
     by_reading : ((l : TileList) → read_list t ≡ some l → ⊥) → read_list t ≡ none
     by_reading g = by (read_list t) refl
@@ -140,11 +134,15 @@ module _ (t : List ℕ) (p : List Float) (q n k m f h : List ℕ) (c : Counts) (
     pub refused_tests : allowed_held b o ≡ false → read_list t ≡ none
     refused_tests e = by_reading (λ l r. true≢false (sym (allowed_then l (stored l r)) ∙ e))
 
-    pub refused_bytes : (list_text (list_in b o) ≡ t → ⊥) → read_list t ≡ none
+    pub refused_bytes : (list_text (list_of v) ≡ t → ⊥) → read_list t ≡ none
     refused_bytes g = by_reading (λ l r. let s = stored l r in g (ap list_text (list_in_lem l s) ∙ s.writes))
 
-    pub readable_bytes : lengths b ≡ lent → lengths o ≡ lent → allowed_held b o ≡ true → F64s (reading b).points → list_text (list_in b o) ≡ t → read_list t ≡ some (list_in b o)
-    readable_bytes long along a x e = ap read_list (sym e) ∙ read_back (list_in b o) x (allowed_in p q n k m f c loops long along a)
+    pub readable_bytes : allowed_held b o ≡ true → list_text (list_of v) ≡ t → read_list t ≡ some (list_of v)
+    readable_bytes a e =
+        let s = state_sound v a in
+        let n = s.points in
+        let k = s.points_long in
+        ap read_list (sym e) ∙ read_back (list_of v) (points_fit (omega arith)) (allowed_in v a)
 
 -- ---- one text compared with another
 

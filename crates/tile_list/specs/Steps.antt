@@ -6,10 +6,12 @@ use Rattle.state.specs.State.{Held, quads_of, reading}
 use Rattle.state.specs.Given.{wrong_state}
 use Rattle.float.specs.Helpers.{decimal}
 use Rattle.state.specs.Limits.{front_limit, front_node_limit, points_length, quads_length, quad_limit}
+use Rattle.state.specs.Call.{held}
 use Rattle.tile_list.specs.declared.error.ListError.{ListError}
 use Rattle.tile_list.specs.declared.error.ListError.TheVariants.{Unreadable, WrongPair, WrongCorner}
+use Rattle.tile_list.specs.declared.list.HeldList.{HeldList}
 use Rattle.tile_text.specs.declared.list.ListRead.{ListRead}
-use Rattle.tile_text.specs.Fields.{Lists, lists}
+use Rattle.tile_text.specs.Fields.{Lists, ListReadIs, lists}
 use Rattle.tile_text.specs.Reading.{read_list}
 use Rattle.tile_text.specs.TileList.{TileList, every_quad, four_different, pass_limit}
 
@@ -45,6 +47,17 @@ allowed_held b o =
 abbrev pub list_in : Held → Held → TileList
 list_in b o = record { loops = (reading o).fronts; state = reading b }
 
+-- ---- of the value that has the buffers
+
+abbrev pub state_in : HeldList → Held
+state_in l = held l.points.now l.quads.now l.front_nodes.now l.front_lengths.now l.counts
+
+abbrev pub loops_in : HeldList → Held
+loops_in l = held l.points.now l.quads.now l.loop_nodes.now l.loop_lengths.now (with_loops l.counts l.loops)
+
+abbrev pub list_of : HeldList → TileList
+list_of l = list_in (state_in l) (loops_in l)
+
 -- a text stands from the buffer's first place on, and ends at n
 pub record Stands (text out : List ℕ) (n : ℕ) : Type 0 where
   pub bytes : take n out ≡ text
@@ -57,6 +70,11 @@ no_lists =
 
 abbrev pub list_read : ℕ → Counts → ListRead
 list_read loops counts = record { loops = loops; counts = counts }
+
+-- a text was read into the buffers, where there was nothing before
+abbrev pub ReadFrom : List ℕ → HeldList → Type 0
+ReadFrom t l =
+    ListReadIs t no_lists (lists l.loop_nodes.now l.loop_lengths.now l.points.now l.quads.now l.quad_lengths.now l.front_nodes.now l.front_lengths.now) (list_read l.loops l.counts)
 
 -- what the test of a text answers: none, or the list in the buffers, whose writing then stands at the front of `out`
 pub record ReadableIs (t out : List ℕ) (l : TileList) (r : Bool) : Type 0 where

@@ -1,97 +1,56 @@
 // Whether a text is readable, and what is wrong with the list.
 ghost use Rattle.std.specs.Prelude.{◌≡◌, true, map, ◌≤◌, length, take};
-ghost use Rattle.state.specs.State.{lengths, quad_nodes, quads_of};
-ghost use Rattle.state.specs.Call.{held, lent};
-ghost use Rattle.tile_text.specs.Fields.{ListReadIs, lists};
+ghost use Rattle.state.specs.State.{quad_nodes, quads_of};
 ghost use Rattle.tile_list.specs.Recheck.{list_room, list_number};
-ghost use Rattle.tile_list.specs.Steps.{ReadableIs, allowed_held, list_in, list_read, no_lists, verdict_number, with_loops};
+ghost use Rattle.tile_list.specs.Steps.{ReadFrom, ReadableIs, allowed_held, list_of, loops_in, state_in, verdict_number};
 
 use crate::error::ListError;
+use crate::list::HeldList;
 use crate::quads::all_pass;
-use crate::tests::is_allowed;
-use crate::writing::put_list;
-use pair_counts::all_twice;
-use state::Counts;
+use pair_counts::{Rings, all_twice};
 
-// Whether the text is that of the list in the buffers: the list is allowed, and its writing is the text.
-pub fn is_readable(
-    out: &mut [u8],
-    input: &[u8],
-    loop_nodes: &[u16],
-    loop_lengths: &[u16],
-    loops: usize,
-    points: &[f64],
-    quads: &[u16],
-    quad_lengths: &[u16],
-    front_nodes: &[u16],
-    front_lengths: &[u16],
-    counts: Counts,
-) -> bool
-    requires list_room_in_bounds { list_room ≤ length out.old }
-    requires counts_value { lengths (held points.now quads.now front_nodes.now front_lengths.now counts) ≡ lent }
-    requires loops_value { lengths (held points.now quads.now loop_nodes.now loop_lengths.now (with_loops counts loops)) ≡ lent }
-    requires list_read_is { ListReadIs input.now no_lists (lists loop_nodes.now loop_lengths.now points.now quads.now quad_lengths.now front_nodes.now front_lengths.now) (list_read loops counts) }
-    ensures { ReadableIs input.now out.new (list_in (held points.now quads.now front_nodes.now front_lengths.now counts) (held points.now quads.now loop_nodes.now loop_lengths.now (with_loops counts loops))) result }
-{
-    if !is_allowed(
-        loop_nodes,
-        loop_lengths,
-        loops,
-        points,
-        quads,
-        front_nodes,
-        front_lengths,
-        counts,
-    ) {
-        return false;
+impl HeldList<'_> {
+    // Whether the text is that of the list in the buffers: the list is allowed, and its writing is the text.
+    pub fn is_readable(&self, out: &mut [u8], input: &[u8]) -> bool
+        requires room { list_room ≤ length out.old }
+        requires read { ReadFrom input.now self.now }
+        ensures { ReadableIs input.now out.new (list_of self.now) result }
+    {
+        if !self.is_allowed() {
+            return false;
+        }
+        let end = self.put(out);
+        input == &out[..end]
     }
-    let end = put_list(
-        out,
-        loop_nodes,
-        &loop_lengths[..loops],
-        points,
-        quads,
-        front_nodes,
-        front_lengths,
-        counts,
-    );
-    input == &out[..end]
-}
 
-// The pairs of nodes, then the corners.
-pub fn check_list(
-    loop_nodes: &[u16],
-    loop_lengths: &[u16],
-    loops: usize,
-    points: &[f64],
-    quads: &[u16],
-    quad_lengths: &[u16],
-    front_nodes: &[u16],
-    front_lengths: &[u16],
-    counts: Counts,
-) -> Result<(), ListError>
-    requires counts_value { lengths (held points.now quads.now front_nodes.now front_lengths.now counts) ≡ lent }
-    requires loops_value { lengths (held points.now quads.now loop_nodes.now loop_lengths.now (with_loops counts loops)) ≡ lent }
-    requires loops_value_2 { allowed_held (held points.now quads.now front_nodes.now front_lengths.now counts) (held points.now quads.now loop_nodes.now loop_lengths.now (with_loops counts loops)) ≡ true }
-    requires quad_lengths_value { take counts.quads quad_lengths.now ≡ map length (map quad_nodes (quads_of counts.quads quads.now)) }
-    requires quads_in_bounds { counts.quads ≤ length quad_lengths.now }
-    ensures { verdict_number result ≡ list_number (list_in (held points.now quads.now front_nodes.now front_lengths.now counts) (held points.now quads.now loop_nodes.now loop_lengths.now (with_loops counts loops))) }
-{
-    let laid = counts.quads;
-    let fronts = counts.fronts;
-    if !all_twice(
-        loop_nodes,
-        &loop_lengths[..loops],
-        quads,
-        &quad_lengths[..laid],
-        front_nodes,
-        &front_lengths[..fronts],
-    ) {
-        return Err(ListError::WrongPair);
+    // The pairs of nodes, then the corners.
+    pub fn check(&self) -> Result<(), ListError>
+        requires allowed { allowed_held (state_in self.now) (loops_in self.now) ≡ true }
+        requires fours { take self.now.counts.quads self.now.quad_lengths.now ≡ map length (map quad_nodes (quads_of self.now.counts.quads self.now.quads.now)) }
+        ensures { verdict_number result ≡ list_number (list_of self.now) }
+    {
+        let counts = self.counts;
+        let loops = Rings {
+            nodes: self.loop_nodes,
+            lengths: &self.loop_lengths[..self.loops],
+        };
+        let quads = Rings {
+            nodes: self.quads,
+            lengths: &self.quad_lengths[..counts.quads],
+        };
+        let fronts = Rings {
+            nodes: self.front_nodes,
+            lengths: &self.front_lengths[..counts.fronts],
+        };
+        if !all_twice(&loops, &quads, &fronts) {
+            return Err(ListError::WrongPair);
+        }
+        if !all_pass(
+            &self.points[..counts.points * 2],
+            &self.quads[..counts.quads * 4],
+        ) {
+            return Err(ListError::WrongCorner);
+        }
+        Ok(())
     }
-    let coords = counts.points * 2;
-    if !all_pass(&points[..coords], quads, laid) {
-        return Err(ListError::WrongCorner);
-    }
-    Ok(())
 }

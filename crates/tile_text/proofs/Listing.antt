@@ -10,11 +10,10 @@ use lib.ListN.{length, length-map}
 use Rattle.state.specs.declared.Counts.{Counts}
 use Rattle.state.specs.State.{State, Quad, quad_nodes, nodes, counts_of}
 use Rattle.answer_text.specs.AnswerText.{lines_text, points_text, state_text}
-use Rattle.text.specs.declared.storing.Counted.{Counted}
+use Rattle.text.specs.declared.read.Read.{Read}
 use Rattle.tile_text.specs.TileList.{TileList, list_text}
 use Rattle.tile_text.specs.Plain.{U16s, Plain}
 use Rattle.tile_text.specs.Fields.{Unlike, RingsReadIs, DoneReadIs, PointsReadIs, lists, stored_list, ListReadIs}
-use Rattle.tile_text.specs.declared.counts.DoneRead.{DoneRead}
 use Rattle.tile_text.specs.declared.list.ListRead.{ListRead}
 
 -- ---- what a text of lines goes on with
@@ -56,26 +55,26 @@ same_counts p q f told k e a b c = rw (a, b, c, e)
 same_lists : {a a' b b' : List ℕ} {c c' : List Float} {d d' e e' f f' g g' : List ℕ} → a ≡ a' → b ≡ b' → c ≡ c' → d ≡ d' → e ≡ e' → f ≡ f' → g ≡ g' → lists a b c d e f g ≡ lists a' b' c' d' e' f' g'
 same_lists ea eb ec ed ee ef eg = cc
 
-module _ (t ln ll : List ℕ) (ps : List Float) (qn ql fn fl ln' ll' : List ℕ) (ps' : List Float) (qn' ql' fn' fl' : List ℕ) (r : Counted) (d : DoneRead) (p q f : Counted)
+module _ (t ln ll : List ℕ) (ps : List Float) (qn ql fn fl ln' ll' : List ℕ) (ps' : List Float) (qn' ql' fn' fl' : List ℕ) (r : Read ℕ) (d : Read Counts) (p q f : Read ℕ)
     (read_r : RingsReadIs t 0 115 ln ln' ll ll' r) (read_d : DoneReadIs t r.next d) (read_p : PointsReadIs t d.next ps ps' p)
     (read_q : RingsReadIs t p.next 113 qn qn' ql ql' q) (read_f : RingsReadIs t q.next 102 fn fn' fl fl' f) where
   abbrev answer : ListRead
   answer = record {
-    loops = r.count;
+    loops = r.value;
     counts = record {
-      points = p.count;
-      quads = q.count;
-      fronts = f.count;
-      row_quads = d.counts.row_quads;
-      core_quads = d.counts.core_quads;
-      row_rounds = d.counts.row_rounds;
-      passes_begun = d.counts.passes_begun;
-      laid = d.counts.laid;
+      points = p.value;
+      quads = q.value;
+      fronts = f.value;
+      row_quads = d.value.row_quads;
+      core_quads = d.value.core_quads;
+      row_rounds = d.value.row_rounds;
+      passes_begun = d.value.passes_begun;
+      laid = d.value.laid;
     };
   }
 
   reads : (l : TileList) → Plain l → list_text l ≡ t
-      → (r.count ≡ length l.loops) × (answer.counts ≡ counts_of l.state) × (lists ln' ll' ps' qn' ql' fn' fl' ≡ stored_list l (lists ln ll ps qn ql fn fl))
+      → (r.value ≡ length l.loops) × (answer.counts ≡ counts_of l.state) × (lists ln' ll' ps' qn' ql' fn' fl' ≡ stored_list l (lists ln ll ps qn ql fn fl))
   unfolding list_text state_text
   reads l plain e =
       let s = l.state in
@@ -87,7 +86,7 @@ module _ (t ln ll : List ℕ) (ps : List Float) (qn ql fn fl ln' ll' : List ℕ)
       let gq = read_q.is (map quad_nodes s.quads) fronts plain.quad_nodes (four_each s.quads) gp.1 (unlike_last 113 102 s.fronts refl) in
       let gf = read_f.is s.fronts [] plain.front_nodes plain.front_lengths (gq.1 ∙ sym (append-nil fronts)) tt in (
         gr.0,
-        same_counts p.count q.count f.count d.counts (counts_of s) gd.0 gp.0 (gq.0 ∙ length-map s.quads quad_nodes) gf.0,
+        same_counts p.value q.value f.value d.value (counts_of s) gd.0 gp.0 (gq.0 ∙ length-map s.quads quad_nodes) gf.0,
         same_lists gr.2 gr.3 gp.2 gq.2 gq.3 gf.2 gf.3,
       )
 

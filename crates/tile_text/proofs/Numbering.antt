@@ -125,5 +125,5 @@ module _ (t : List ℕ) (at from : ℕ) (old : List ℕ) where
         by [] e c s = (omega arith, e, s)
         by (m ∷ ms) e c s = absurd (unlike_same tab _ (drop next t) o (e ∙ numbers_more m ms (lf ∷ rest)))
 
-    pub left_done : Unlike tab (drop next t) → NumbersReadIs t at from old new (record { next = next; count = count })
+    pub left_done : Unlike tab (drop next t) → NumbersReadIs t at from old new (record { value = count; next = next })
     left_done o = record { within = l.within; is = λ ns rest s e. none_left o ns rest (l.is ns rest s e) }

@@ -170,11 +170,11 @@ module _ (t : List ℕ) (at : ℕ) (old : List Float) where
           by (u ∷ []) m w p c s = absurd (omega arith)
           by (u ∷ v ∷ ls) m w p c s = absurd (stop u v ls rest w)
 
-      done : PointsReadIs t at old new (record { next = next; count = count })
+      done : PointsReadIs t at old new (record { value = count; next = next })
       done = record { within = l.within; is = λ n xs rest p f e o. none_left n xs rest (l.is n xs rest p f e o) }
 
-    pub left_other : Unlike 112 (drop next t) → PointsReadIs t at old new (record { next = next; count = count })
+    pub left_other : Unlike 112 (drop next t) → PointsReadIs t at old new (record { value = count; next = next })
     left_other o = done (λ x y ls rest e. unlike_same 112 _ (drop next t) o (e ∙ points_more x y ls rest))
 
-    pub left_short : length t - next < 36 → PointsReadIs t at old new (record { next = next; count = count })
+    pub left_short : length t - next < 36 → PointsReadIs t at old new (record { value = count; next = next })
     left_short h = done (λ x y ls rest e. line_long t next x y ls rest e h)

@@ -9,7 +9,7 @@ use lib.Seq.{sets, get_or-append-add}
 use Rattle.state.specs.State.{joined}
 use Rattle.state.proofs.Stores.{sets-append}
 use Rattle.answer_text.specs.AnswerText.{lf, numbers_text, lines_text}
-use Rattle.text.specs.declared.storing.Counted.{Counted}
+use Rattle.text.specs.declared.read.Read.{Read}
 use Rattle.tile_text.specs.Plain.{U16s}
 use Rattle.tile_text.specs.Fields.{Unlike, NumbersReadIs, RingsReadIs}
 use Rattle.tile_text.proofs.Going.{first_at, first_there, unlike_same}
@@ -56,17 +56,17 @@ module _ (t : List ℕ) (at letter : ℕ) (old_nodes old_lengths : List ℕ) whe
 
   module _ (nodes lengths : List ℕ) (next count stored : ℕ) (l : Left t at letter old_nodes nodes old_lengths lengths next count stored) where
     -- a line is read
-    module _ (h : next < length t) (b : get_or t next 0 ≡ letter) (newer : List ℕ) (r : Counted) (read : NumbersReadIs t (next + 1) stored nodes newer r)
-        (longer : List ℕ) (e : r.count < 65536 → longer ≡ set lengths count r.count)
+    module _ (h : next < length t) (b : get_or t next 0 ≡ letter) (newer : List ℕ) (r : Read ℕ) (read : NumbersReadIs t (next + 1) stored nodes newer r)
+        (longer : List ℕ) (e : r.value < 65536 → longer ≡ set lengths count r.value)
         (q : ℕ) (behind : (r.next ≤ q) × (q ≤ length t) × (r.next < length t → q ≡ r.next + 1)) where
       one_less : (rings : List (List ℕ)) (rest : List ℕ) → Unlike letter rest → Rest t letter old_nodes nodes old_lengths lengths next count stored rings rest
-          → Rest t letter old_nodes newer old_lengths longer q (count + 1) (stored + r.count) rings rest
+          → Rest t letter old_nodes newer old_lengths longer q (count + 1) (stored + r.value) rings rest
       unfolding lines_text joined
       one_less rings rest o z = by z.left z.text z.counted z.nodes_are z.lengths_are z.small_nodes z.small_lengths
         where
           by : (ms : List (List ℕ)) → drop next t ≡ lines_text (letter ∷ []) ms ++ rest → count + length ms ≡ length rings → sets nodes stored (joined ms) ≡ sets old_nodes 0 (joined rings)
               → sets lengths count (map length ms) ≡ sets old_lengths 0 (map length rings) → U16s (joined ms) → U16s (map length ms)
-              → Rest t letter old_nodes newer old_lengths longer q (count + 1) (stored + r.count) rings rest
+              → Rest t letter old_nodes newer old_lengths longer q (count + 1) (stored + r.value) rings rest
           by [] w c n k s u = absurd (unlike_same letter _ rest o (sym w ∙ first_there t next letter h b))
           by (m ∷ ms) w c n k s u =
               let tail = lines_text (letter ∷ []) ms ++ rest in
@@ -75,7 +75,7 @@ module _ (t : List ℕ) (at letter : ℕ) (old_nodes old_lengths : List ℕ) whe
               let f = first_at t r.next lf tail g.1 in
               let place : q ≡ r.next + 1 = behind.2 f.0 in
               let count-is = g.0 in
-              let small : r.count < 65536 = let v = small_first (length m) (map length ms) u in omega arith in
+              let small : r.value < 65536 = let v = small_first (length m) (map length ms) u in omega arith in
               record {
                 left = ms;
                 text = rw place f.2;
@@ -86,7 +86,7 @@ module _ (t : List ℕ) (at letter : ℕ) (old_nodes old_lengths : List ℕ) whe
                 small_lengths = small_rest (length m) (map length ms) u;
               }
 
-      pub left_step : Left t at letter old_nodes newer old_lengths longer q (count + 1) (stored + r.count)
+      pub left_step : Left t at letter old_nodes newer old_lengths longer q (count + 1) (stored + r.value)
       left_step =
           let w = l.within in
           let v = read.within in
@@ -106,5 +106,5 @@ module _ (t : List ℕ) (at letter : ℕ) (old_nodes old_lengths : List ℕ) whe
         by [] w c n k = (omega arith, w, n, k)
         by (m ∷ ms) w c n k = absurd (unlike_same letter _ (drop next t) o (w ∙ lines_more letter m ms rest))
 
-    pub left_done : Unlike letter (drop next t) → RingsReadIs t at letter old_nodes nodes old_lengths lengths (record { next = next; count = count })
+    pub left_done : Unlike letter (drop next t) → RingsReadIs t at letter old_nodes nodes old_lengths lengths (record { value = count; next = next })
     left_done o = let w = l.within in record { within = (omega arith, w.1); is = λ rings rest s u e v. none_left o rings rest (l.is rings rest s u e v) }

@@ -7,4 +7,4 @@ mod numbers;
 mod points;
 mod rings;
 
-pub use list::{ListRead, read_list};
+pub use list::{ListBuffers, ListRead, read_list};

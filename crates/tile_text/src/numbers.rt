@@ -4,13 +4,14 @@ ghost use Rattle.std.proofs.Math.Seq.{slice};
 ghost use Rattle.text.specs.Decimal.{decimal_text};
 ghost use Rattle.tile_text.specs.Fields.{NumbersReadIs};
 
-use text::{Counted, field_end, natural};
+use text::{Read, field_end, natural};
 
 // The number that the bytes from `at` up to `end` are the writing of, or 0.
 fn number_in(text: &[u8], at: usize, end: usize) -> usize
     requires { (at ≤ end) × (end ≤ length text.now) }
     ensures { (n : ℕ) → n < 65536 → slice at end text.now ≡ decimal_text n → result ≡ n }
 {
+    // as: Rust has no From between u32 and usize
     natural(text, at, end, 65535).unwrap_or(0) as usize
 }
 
@@ -24,7 +25,7 @@ pub fn store(nodes: &mut [u16], i: usize, n: usize)
 }
 
 // Numbers behind tabs from `at` on, as long as they come, stored from place `from` on.
-pub fn read_numbers(text: &[u8], at: usize, nodes: &mut [u16], from: usize) -> Counted
+pub fn read_numbers(text: &[u8], at: usize, nodes: &mut [u16], from: usize) -> Read<usize>
     requires { (at ≤ length text.now) × (from ≤ at) }
     ensures { NumbersReadIs text.now at from nodes.old nodes.new result }
 {
@@ -33,12 +34,12 @@ pub fn read_numbers(text: &[u8], at: usize, nodes: &mut [u16], from: usize) -> C
     // by the place behind each number, which no index counts
     while next < text.len() {
         if text[next] != b'\t' {
-            return Counted { next, count };
+            return Read { value: count, next };
         }
         let end = field_end(text, next + 1);
         store(nodes, from + count, number_in(text, next + 1, end));
         count += 1;
         next = end;
     }
-    Counted { next, count }
+    Read { value: count, next }
 }

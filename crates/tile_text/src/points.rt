@@ -5,7 +5,7 @@ ghost use Rattle.std.specs.Float.Ieee.{nan_bits, of_bits};
 ghost use Rattle.state.specs.Limits.{points_length};
 ghost use Rattle.tile_text.specs.Fields.{PointsReadIs};
 
-use text::{Counted, hex, store_point};
+use text::{Read, hex, store_point};
 
 // The f64 of a pattern; 0 for that of a NaN, which no list has.
 fn coordinate(bits: u64) -> f64
@@ -18,7 +18,7 @@ fn coordinate(bits: u64) -> f64
 }
 
 // `p` lines from `at` on, as long as they come; each has 36 bytes.
-pub fn read_points(text: &[u8], at: usize, points: &mut [f64]) -> Counted
+pub fn read_points(text: &[u8], at: usize, points: &mut [f64]) -> Read<usize>
     requires { (at ≤ length text.now) × (length points.old ≡ points_length) }
     ensures { PointsReadIs text.now at points.old points.new result }
 {
@@ -27,7 +27,7 @@ pub fn read_points(text: &[u8], at: usize, points: &mut [f64]) -> Counted
     // by the place behind each line, as in the other lines
     while 36 <= text.len() - next {
         if text[next] != b'p' {
-            return Counted { next, count };
+            return Read { value: count, next };
         }
         let x = coordinate(hex(text, next + 2));
         let y = coordinate(hex(text, next + 19));
@@ -35,5 +35,5 @@ pub fn read_points(text: &[u8], at: usize, points: &mut [f64]) -> Counted
         count += 1;
         next += 36;
     }
-    Counted { next, count }
+    Read { value: count, next }
 }

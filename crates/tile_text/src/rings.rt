@@ -3,7 +3,7 @@ ghost use Rattle.std.specs.Prelude.{◌≡◌, ◌+◌, ◌≤◌, ◌<◌, leng
 ghost use Rattle.tile_text.specs.Fields.{RingsReadIs};
 
 use crate::numbers::{read_numbers, store};
-use text::Counted;
+use text::Read;
 
 // The place behind a line's end.
 pub fn behind_end(text: &[u8], at: usize) -> usize
@@ -20,7 +20,7 @@ pub fn read_rings(
     letter: u8,
     nodes: &mut [u16],
     lengths: &mut [u16],
-) -> Counted
+) -> Read<usize>
     requires { at ≤ length text.now }
     ensures { RingsReadIs text.now at letter nodes.old nodes.new lengths.old lengths.new result }
 {
@@ -30,13 +30,13 @@ pub fn read_rings(
     // by the place behind each line, which no index counts
     while next < text.len() {
         if text[next] != letter {
-            return Counted { next, count };
+            return Read { value: count, next };
         }
         let line = read_numbers(text, next + 1, nodes, stored);
-        store(lengths, count, line.count);
-        stored += line.count;
+        store(lengths, count, line.value);
+        stored += line.value;
         count += 1;
         next = behind_end(text, line.next);
     }
-    Counted { next, count }
+    Read { value: count, next }
 }

@@ -17,12 +17,6 @@ overflow_sub-z c =
     let t : goal.Then-x-2 = search in
     rw c.from-z.ensures (zeros _ (held) (above t) c.if-b-lt-LEAD.true).0
 
-pub overflow_shl-b : goal.overflow_shl-b
-overflow_shl-b c =
-    let held : T (fits binary64 c.args.x) = subst T (sym c.well_formed.0.1) tt in
-    let t : goal.Then-x-2 = search in
-    omega (arith, zeros _ (held) (above t) c.if-b-lt-LEAD.true)
-
 pub overflow_sub-z-then-b-lt-LEAD : goal.overflow_sub-z-then-b-lt-LEAD
 overflow_sub-z-then-b-lt-LEAD c =
     let held : T (fits binary64 c.args.x) = subst T (sym c.well_formed.0.1) tt in

@@ -1,12 +1,11 @@
 -- `plate_text::put_paved` meets its contract, by what was read.
-use mathlib.Core.Path.{◌≡◌, sym, ap, ◌∙◌}
+use mathlib.Core.Path.{◌≡◌, ap, ◌∙◌}
 use native.Mathlib.Omega.{arith}
 use Prim.Native.Nat.{◌*◌}
-use lib.ListN.{length, take}
-use lib.Seq.{length-take-le}
+use lib.ListN.{length}
 use borrow.Author.Rules.{rules}
 use Rattle.state.specs.Call.{lent}
-use Rattle.input.specs.Job.{job, loop_limit, pair_limit}
+use Rattle.input.specs.Job.{loop_limit, pair_limit}
 use Rattle.rules.specs.Calls.{job_call}
 use Rattle.answer_text.specs.AnswerText.{answer_text}
 use Rattle.text.proofs.Midst.{put_same}
@@ -18,33 +17,16 @@ use Rattle.plate_text.proofs.put_paved.Goals.{In-Ok}
 found : (c : In-Ok) → JobIs c.args.input.now c.read_job.new.coords c.read_job.new.loop_lengths c.in-Ok.read
 found c = job_is _ _ _ c.in-Ok.read c.in-Ok.ensures
 
-pub overflow_mul-coords : goal.overflow_mul-coords
-overflow_mul-coords c = let f = (found (goal.at.overflow_mul-coords c).In-Ok).few in omega arith
-
-pub slice_bounds-coords-end : goal.slice_bounds-coords-end
-slice_bounds-coords-end c =
-    let f = (found (goal.at.slice_bounds-coords-end c).In-Ok).few in
-    let l : length c.read_job.new.coords ≡ pair_limit * 2 = search rules in omega arith
-
-pub slice_bounds-job-end : goal.slice_bounds-job-end
-slice_bounds-job-end c =
-    let f = (found (goal.at.slice_bounds-job-end c).In-Ok).few in
-    let l : length c.read_job.new.coords ≡ pair_limit * 2 = search rules in sym (length-take-le _ c.read_job.new.coords (omega arith))
-
-pub slice_bounds-loop_lengths-end : goal.slice_bounds-loop_lengths-end
-slice_bounds-loop_lengths-end c =
-    let f = (found (goal.at.slice_bounds-loop_lengths-end c).In-Ok).few in
-    let l : length c.read_job.new.loop_lengths ≡ loop_limit = search rules in omega arith
-
-pub slice_bounds-job-end-in-Ok : goal.slice_bounds-job-end-in-Ok
-slice_bounds-job-end-in-Ok c =
-    let f = (found (goal.at.slice_bounds-job-end-in-Ok c).In-Ok).few in
-    let l : length c.read_job.new.loop_lengths ≡ loop_limit = search rules in sym (length-take-le _ c.read_job.new.loop_lengths (omega arith))
+pub job-job-requires : goal.job-job-requires
+job-job-requires c =
+    let f = (found (goal.at.job-job-requires c).In-Ok).few in
+    let l : length c.read_job.new.coords ≡ pair_limit * 2 = search rules in
+    let n : length c.read_job.new.loop_lengths ≡ loop_limit = search rules in
+    (omega arith, omega arith)
 
 pub returns-in-Ok-clause-put : goal.returns-in-Ok-clause-put
 returns-in-Ok-clause-put c =
-    put_same (ap (λ o. answer_text (job_call (job (take (c.in-Ok.read.pairs * 2) c.read_job.new.coords) (take c.in-Ok.read.loops c.read_job.new.loop_lengths) c.in-Ok.read.size o) lent)) c.defaults.ensures
-    ∙ answered _ _ _ c.in-Ok.read c.in-Ok.ensures) c.put_job.ensures.put
+    put_same (ap (λ j. answer_text (job_call j lent)) c.job-job.ensures ∙ answered _ _ _ c.in-Ok.read c.in-Ok.ensures) c.put_job.ensures.put
 
 pub returns-in-Err-clause-put : goal.returns-in-Err-clause-put
 returns-in-Err-clause-put c = put_same (refused _ _ _ c.in-Err.error c.in-Err.ensures) (rw c.number.ensures at c.put_refused.ensures.put)

@@ -4,25 +4,25 @@ use Rattle.state.specs.Refusals.{answered}
 use Rattle.answer_text.proofs.Pieces.{done_sound, done_text, refused_text_lem}
 use Rattle.answer_text.proofs.answer.put_answer.Goals as goal
 
-pub put_state-requires : goal.put_state-requires
-put_state-requires c =
+pub put_held-requires : goal.put_held-requires
+put_held-requires c =
     let a = c.args in record {
       text_limit_in_bounds = c.requires.text_limit_in_bounds;
-      sound = done_sound (answered a.answer) a.lent.now.points.now a.lent.now.quads.now a.lent.now.front_nodes.now a.lent.now.front_lengths.now c.in-Ok.counts (ap answered c.in-Ok.is) c.requires.sound_answer;
+      sound = done_sound (answered a.answer) a.held.now.points.now a.held.now.quads.now a.held.now.front_nodes.now a.held.now.front_lengths.now c.in-Ok.counts (ap answered c.in-Ok.is) c.requires.sound_answer;
     }
 
 pub returns-in-Ok : goal.returns-in-Ok
 returns-in-Ok c =
     let a = c.args in record {
-      put = rw (done_text (answered a.answer) a.lent.now.points.now a.lent.now.quads.now a.lent.now.front_nodes.now a.lent.now.front_lengths.now c.in-Ok.counts (ap answered c.in-Ok.is)) at c.put_state.ensures.put;
-      upper_bound = c.put_state.ensures.upper_bound;
-      same = c.put_state.ensures.same;
+      put = rw (done_text (answered a.answer) a.held.now.points.now a.held.now.quads.now a.held.now.front_nodes.now a.held.now.front_lengths.now c.in-Ok.counts (ap answered c.in-Ok.is)) at c.put_held.ensures.put;
+      upper_bound = c.put_held.ensures.upper_bound;
+      same = c.put_held.ensures.same;
     }
 
 pub returns-in-Err : goal.returns-in-Err
 returns-in-Err c =
     let a = c.args in record {
-      put = rw (c.number.ensures, refused_text_lem (answered a.answer) a.lent.now.points.now a.lent.now.quads.now a.lent.now.front_nodes.now a.lent.now.front_lengths.now _ (ap answered c.in-Err.is)) at c.put_refused.ensures.put;
+      put = rw (c.number.ensures, refused_text_lem (answered a.answer) a.held.now.points.now a.held.now.quads.now a.held.now.front_nodes.now a.held.now.front_lengths.now _ (ap answered c.in-Err.is)) at c.put_refused.ensures.put;
       upper_bound = c.put_refused.ensures.upper_bound;
       same = c.put_refused.ensures.same;
     }

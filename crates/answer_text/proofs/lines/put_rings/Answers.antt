@@ -37,6 +37,3 @@ loop-count-preserved c =
 pub returns-clause-put : goal.returns-clause-put
 returns-clause-put c =
     ended (same_rest (fronts_end (c.args.letter ∷ []) c.args.lengths.now c.args.nodes.now c.loop-count.count-index c.loop-count.start c.loop-count-test.false) c.loop-count.invariant.1)
-
-pub returns-clause-same : goal.returns-clause-same
-returns-clause-same c = c.loop-count.invariant.2

@@ -14,23 +14,23 @@ pub returns-in_err-check-clause-left : goal.returns-in_err-check-clause-left
 unfolding close_call
 returns-in_err-check-clause-left c =
     let p = err_from_is_err_and c.from_residual.result c.from_residual.ensures.1 in
-    rw (p.1, p.2) (input_refuses _ (closings c.args.job.now.options.corner_limit) _ _ c.in_err-check.ensures)
+    rw (p.1, p.2) (input_refuses _ (closings c.args.job.now.options.corner_limit) _ _ c.in_err-check.ensures.value)
 
 pub is_wrong-requires : goal.is_wrong-requires
-is_wrong-requires c = right_lengths_lem (job_of c.args.job.now) (held_in c.args.lent.now c.args.counts) _ c.in_ok-check.ensures refl
+is_wrong-requires c = right_lengths_lem (job_of c.args.job.now) (held_in c.args.lent.now c.args.counts) _ c.in_ok-check.ensures.value refl
 
 pub returns-then-is_wrong-clause-left : goal.returns-then-is_wrong-clause-left
 unfolding close_call
-returns-then-is_wrong-clause-left c = state_refuses _ (closings c.args.job.now.options.corner_limit) _ (sym c.in_ok-check.ensures) _ c.is_wrong.ensures c.if-is_wrong.true
+returns-then-is_wrong-clause-left c = state_refuses _ (closings c.args.job.now.options.corner_limit) _ (sym c.in_ok-check.ensures.value) _ c.is_wrong.ensures c.if-is_wrong.true
 
 pub close_small_fronts-requires : goal.close_small_fronts-requires
 close_small_fronts-requires c =
     let b = held_in c.args.lent.now c.args.counts in
-    let right = right_lengths_lem (job_of c.args.job.now) b _ c.in_ok-check.ensures refl in record {
+    let right = right_lengths_lem (job_of c.args.job.now) b _ c.in_ok-check.ensures.value refl in record {
       sound = sounding.sound b right (sym c.is_wrong.ensures ∙ c.if-is_wrong.false);
       clean = λ h. absurd (true≢false (sym h));
     }
 
 pub returns-clause-left : goal.returns-clause-left
 unfolding close_call
-returns-clause-left c = state_stands _ (closings c.args.job.now.options.corner_limit) _ (sym c.in_ok-check.ensures) _ c.is_wrong.ensures c.if-is_wrong.false _ c.close_small_fronts.ensures.left
+returns-clause-left c = state_stands _ (closings c.args.job.now.options.corner_limit) _ (sym c.in_ok-check.ensures.value) _ c.is_wrong.ensures c.if-is_wrong.false _ c.close_small_fronts.ensures.left

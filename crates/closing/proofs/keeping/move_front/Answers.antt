@@ -5,4 +5,4 @@ use Rattle.closing.proofs.keeping.move_front.Goals as goal
 
 pub returns-clause-front_nodes_after : goal.returns-clause-front_nodes_after
 returns-clause-front_nodes_after c =
-    c.copy_within.ensures.after ∙ rw c.wide-n.ensures (within_is c.args.front_nodes.now c.args.start c.args.place.node c.args.len c.requires.1 (omega arith))
+    c.copy_within.ensures.after ∙ rw c.from-n.ensures (within_is c.args.front_nodes.now c.args.start c.args.place.node c.args.len c.requires.1 (omega arith))

@@ -1,6 +1,6 @@
--- The quads and marks of the first `li` fronts are found, and the nodes of the others are ahead.
+-- What closes the first `li` fronts is found, and the next one's nodes are at `start`.
 use mathlib.Core.Path.{◌≡◌}
-use lib.ListN.{take, drop}
+use lib.ListN.{length, take}
 use Rattle.geometry.specs.Domain.{sum_of}
 use Rattle.state.specs.State.{cut}
 use Rattle.closing_search.proofs.Gathering.{Found}
@@ -8,6 +8,7 @@ use Rattle.closing_search.proofs.finding.find_closures.Given as goal
 
 abbrev pub invariant-loop-li : goal.invariant-loop-li
 invariant-loop-li l = record {
-  found : Found l.limit l.points (cut l.lengths l.front_nodes) l.initial.added l.added l.kept l.count l.li;
-  rest : l.ahead ≡ drop (sum_of (take l.li l.lengths)) l.front_nodes;
+  found : Found l.limit l.fronts.points.now (cut l.fronts.lengths.now l.fronts.nodes.now) l.closures l.li;
+  long : length l.closures ≡ 16;
+  place : l.start ≡ sum_of (take l.li l.fronts.lengths.now);
 }

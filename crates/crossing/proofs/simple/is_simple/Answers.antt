@@ -5,8 +5,8 @@ use Rattle.crossing.proofs.simple.is_simple.Goals as goal
 
 pub returns-then-n-ge3 : goal.returns-then-n-ge3
 unfolding is_simple
-returns-then-n-ge3 c = rw (le-leb _ _ c.if-n-ge3.true, c.sides_cross.ensures)
+returns-then-n-ge3 g c = rw (le-leb _ _ (rw c.size-n.ensures at c.if-n-ge3.true), c.sides_cross.ensures)
 
 pub returns-else-n-ge3 : goal.returns-else-n-ge3
 unfolding is_simple
-returns-else-n-ge3 c = rw (lt-leb _ _ c.if-n-ge3.false)
+returns-else-n-ge3 g c = rw (← c.size-n.ensures, lt-leb _ _ c.if-n-ge3.false)

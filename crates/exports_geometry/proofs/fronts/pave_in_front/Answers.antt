@@ -1,16 +1,12 @@
--- `exports_geometry::fronts::pave_in_front` meets its contract: the test before the call decides.
+-- `exports_geometry::fronts::pave_in_front` meets its contract: there is a ring, or none.
 use mathlib.Core.Path.{refl}
 use Rattle.exports_geometry.specs.Fronts.{within_or_not}
-use Rattle.exports_geometry.proofs.Nodes.{named}
 use Rattle.exports_geometry.proofs.fronts.pave_in_front.Goals as goal
 
-pub in_front-requires : goal.in_front-requires
-in_front-requires c = named _ _ _ c.nodes_fit.ensures c.if-nodes_fit.true
-
-pub returns-then-nodes_fit : goal.returns-then-nodes_fit
+pub returns-in_default : goal.returns-in_default
 unfolding within_or_not
-returns-then-nodes_fit c = rw (← c.nodes_fit.ensures, c.if-nodes_fit.true) c.in_front.ensures
+returns-in_default c = rw c.in_default.ensures refl
 
 pub returns : goal.returns
 unfolding within_or_not
-returns c = rw (← c.nodes_fit.ensures, c.if-nodes_fit.false) refl
+returns c = let k = c.in-Some.ensures in rw (k.0, ← k.1, ← k.2) c.in_polygon.ensures

@@ -1,16 +1,12 @@
--- `exports_geometry::outline::pave_contains` meets its contract: the test before the call decides.
+-- `exports_geometry::outline::pave_contains` meets its contract: there is an outline, or none.
 use mathlib.Core.Path.{refl}
 use Rattle.exports_geometry.specs.Outline.{contains_or_not}
-use Rattle.exports_geometry.proofs.Loops.{room}
 use Rattle.exports_geometry.proofs.outline.pave_contains.Goals as goal
 
-pub contains-requires : goal.contains-requires
-contains-requires c = room _ _ _ c.loops_fit.ensures c.if-loops_fit.true
-
-pub returns-then-loops_fit : goal.returns-then-loops_fit
+pub returns-in_default : goal.returns-in_default
 unfolding contains_or_not
-returns-then-loops_fit c = rw (← c.loops_fit.ensures, c.if-loops_fit.true) c.contains.ensures
+returns-in_default c = rw c.in_default.ensures refl
 
 pub returns : goal.returns
 unfolding contains_or_not
-returns c = rw (← c.loops_fit.ensures, c.if-loops_fit.false) refl
+returns c = let k = c.in-Some.ensures in rw (k.0, ← k.1, ← k.2) c.contains.ensures

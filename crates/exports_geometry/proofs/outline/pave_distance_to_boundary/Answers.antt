@@ -1,16 +1,12 @@
--- `exports_geometry::outline::pave_distance_to_boundary` meets its contract: the test before the call decides.
+-- `exports_geometry::outline::pave_distance_to_boundary` meets its contract: there is an outline, or none.
 use Rattle.exports_geometry.specs.Outline.{boundary_or}
 use Rattle.exports_geometry.proofs.Choices.{nan_is}
-use Rattle.exports_geometry.proofs.Loops.{room}
 use Rattle.exports_geometry.proofs.outline.pave_distance_to_boundary.Goals as goal
 
-pub distance_to_boundary-requires : goal.distance_to_boundary-requires
-distance_to_boundary-requires c = room _ _ _ c.loops_fit.ensures c.if-loops_fit.true
-
-pub returns-then-loops_fit : goal.returns-then-loops_fit
+pub returns-in_default : goal.returns-in_default
 unfolding boundary_or
-returns-then-loops_fit c = rw (← c.loops_fit.ensures, c.if-loops_fit.true) c.distance_to_boundary.ensures
+returns-in_default c = rw c.in_default.ensures nan_is
 
 pub returns : goal.returns
 unfolding boundary_or
-returns c = rw (← c.loops_fit.ensures, c.if-loops_fit.false) nan_is
+returns c = let k = c.in-Some.ensures in rw (k.0, ← k.1, ← k.2) c.distance_to_boundary.ensures

@@ -1,16 +1,12 @@
--- `exports_geometry::outline::pave_domain_area` meets its contract: the test before the call decides.
+-- `exports_geometry::outline::pave_domain_area` meets its contract: there is an outline, or none.
 use Rattle.exports_geometry.specs.Outline.{area_or}
 use Rattle.exports_geometry.proofs.Choices.{nan_is}
-use Rattle.exports_geometry.proofs.Loops.{room}
 use Rattle.exports_geometry.proofs.outline.pave_domain_area.Goals as goal
 
-pub domain_area-requires : goal.domain_area-requires
-domain_area-requires c = room _ _ _ c.loops_fit.ensures c.if-loops_fit.true
-
-pub returns-then-loops_fit : goal.returns-then-loops_fit
+pub returns-in_default : goal.returns-in_default
 unfolding area_or
-returns-then-loops_fit c = rw (← c.loops_fit.ensures, c.if-loops_fit.true) c.domain_area.ensures
+returns-in_default c = rw c.in_default.ensures nan_is
 
 pub returns : goal.returns
 unfolding area_or
-returns c = rw (← c.loops_fit.ensures, c.if-loops_fit.false) nan_is
+returns c = let k = c.in-Some.ensures in rw (k.0, ← k.1, ← k.2) c.area.ensures

@@ -10,4 +10,4 @@ use Rattle.fan_search.specs.Quads.{with_centre}
 use Rattle.fan.proofs.quads.put_fan.Given as goal
 
 abbrev pub invariant-loop-k : goal.invariant-loop-k
-invariant-loop-k l = l.quads ≡ sets l.initial.quads l.at (joined (map quad_nodes (fan_quads (with_centre l.points l.p) l.nodes (length l.points / 2) l.k)))
+invariant-loop-k l = l.quads ≡ sets l.initial.quads l.at (joined (map quad_nodes (fan_quads (with_centre l.fan.front.pts.now l.fan.centre) l.fan.front.nodes.now (length l.fan.front.pts.now / 2) l.k)))

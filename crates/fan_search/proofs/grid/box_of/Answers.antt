@@ -1,5 +1,5 @@
 use Rattle.fan_search.proofs.Searching.{box_next}
 use Rattle.fan_search.proofs.grid.box_of.Goals as goal
 
-pub loop-node-preserved : goal.loop-node-preserved
-loop-node-preserved c = rw c.with-b.ensures (box_next _ _ _ _ c.loop-node.invariant (rw c.wide.ensures at c.point_at.ensures))
+pub loop-i-preserved : goal.loop-i-preserved
+loop-i-preserved g c = rw c.with-b.ensures (box_next _ _ _ _ c.loop-i.invariant c.at.ensures)

@@ -3,10 +3,7 @@ use Rattle.fan_search.proofs.Searching.{grid_none, grid_more}
 use Rattle.fan_search.proofs.grid.search_grid.Goals as goal
 
 pub loop-i-init : goal.loop-i-init
-loop-i-init c = record { squared = c.middle_of-found.ensures.0; best = grid_none _ _ _ _ }
+loop-i-init g c = grid_none _ _ _ _
 
 pub loop-i-preserved : goal.loop-i-preserved
-loop-i-preserved c = record {
-  squared = c.search_column-found.ensures.0;
-  best = grid_more _ _ (boxed c.args.b) _ _ _ _ c.loop-i.invariant.best c.search_column-found.ensures.1;
-}
+loop-i-preserved g c = grid_more _ _ (boxed c.args.b) _ _ _ _ c.loop-i.invariant c.search_column-found.ensures

@@ -17,24 +17,24 @@ begun out at b m = start out at (ascii "<text x=\"" âˆ· middle_text (boxed b) âˆ
 
 pub bytes-requires : goal.bytes-requires
 bytes-requires c =
-    fits (begun c.args.w.now.out.now c.args.w.now.at c.args.b c.args.m) c.requires
+    fits (begun c.args.w.now.out.now c.args.w.now.at c.args.frame.bounds c.args.frame.margin) c.requires
 
 pub put_middle-requires : goal.put_middle-requires
 put_middle-requires c =
-    fits (step (begun c.args.w.now.out.now c.args.w.now.at c.args.b c.args.m) c.bytes.ensures.put) c.requires
+    fits (step (begun c.args.w.now.out.now c.args.w.now.at c.args.frame.bounds c.args.frame.margin) c.bytes.ensures.put) c.requires
 
 pub bytes-requires-2 : goal.bytes-requires-2
 bytes-requires-2 c =
-    fits (step (step (begun c.args.w.now.out.now c.args.w.now.at c.args.b c.args.m) c.bytes.ensures.put) c.put_middle.ensures.put) c.requires
+    fits (step (step (begun c.args.w.now.out.now c.args.w.now.at c.args.frame.bounds c.args.frame.margin) c.bytes.ensures.put) c.put_middle.ensures.put) c.requires
 
 pub put_under-requires : goal.put_under-requires
 put_under-requires c =
-    fits (step (step (step (begun c.args.w.now.out.now c.args.w.now.at c.args.b c.args.m) c.bytes.ensures.put) c.put_middle.ensures.put) c.bytes-2.ensures.put) c.requires
+    fits (step (step (step (begun c.args.w.now.out.now c.args.w.now.at c.args.frame.bounds c.args.frame.margin) c.bytes.ensures.put) c.put_middle.ensures.put) c.bytes-2.ensures.put) c.requires
 
 pub bytes-requires-3 : goal.bytes-requires-3
 bytes-requires-3 c =
-    fits (step (step (step (step (begun c.args.w.now.out.now c.args.w.now.at c.args.b c.args.m) c.bytes.ensures.put) c.put_middle.ensures.put) c.bytes-2.ensures.put) c.put_under.ensures.put) c.requires
+    fits (step (step (step (step (begun c.args.w.now.out.now c.args.w.now.at c.args.frame.bounds c.args.frame.margin) c.bytes.ensures.put) c.put_middle.ensures.put) c.bytes-2.ensures.put) c.put_under.ensures.put) c.requires
 
 pub returns-clause-put : goal.returns-clause-put
 returns-clause-put c =
-    done (step (step (step (step (step (begun c.args.w.now.out.now c.args.w.now.at c.args.b c.args.m) c.bytes.ensures.put) c.put_middle.ensures.put) c.bytes-2.ensures.put) c.put_under.ensures.put) c.bytes-3.ensures.put)
+    done (step (step (step (step (step (begun c.args.w.now.out.now c.args.w.now.at c.args.frame.bounds c.args.frame.margin) c.bytes.ensures.put) c.put_middle.ensures.put) c.bytes-2.ensures.put) c.put_under.ensures.put) c.bytes-3.ensures.put)

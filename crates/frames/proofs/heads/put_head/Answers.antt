@@ -17,24 +17,24 @@ begun out at b m = start out at (opening ∷ view_text (boxed b) m ∷ ascii "\"
 
 pub put_opening-requires : goal.put_opening-requires
 put_opening-requires c =
-    fits (begun c.args.w.now.out.now c.args.w.now.at c.args.b c.args.m) c.requires
+    fits (begun c.args.w.now.out.now c.args.w.now.at c.args.frame.bounds c.args.frame.margin) c.requires
 
 pub put_view-requires : goal.put_view-requires
 put_view-requires c =
-    fits (step (begun c.args.w.now.out.now c.args.w.now.at c.args.b c.args.m) c.put_opening.ensures.put) c.requires
+    fits (step (begun c.args.w.now.out.now c.args.w.now.at c.args.frame.bounds c.args.frame.margin) c.put_opening.ensures.put) c.requires
 
 pub bytes-requires : goal.bytes-requires
 bytes-requires c =
-    fits (step (step (begun c.args.w.now.out.now c.args.w.now.at c.args.b c.args.m) c.put_opening.ensures.put) c.put_view.ensures.put) c.requires
+    fits (step (step (begun c.args.w.now.out.now c.args.w.now.at c.args.frame.bounds c.args.frame.margin) c.put_opening.ensures.put) c.put_view.ensures.put) c.requires
 
 pub put_size-requires : goal.put_size-requires
 put_size-requires c =
-    fits (step (step (step (begun c.args.w.now.out.now c.args.w.now.at c.args.b c.args.m) c.put_opening.ensures.put) c.put_view.ensures.put) c.bytes.ensures.put) c.requires
+    fits (step (step (step (begun c.args.w.now.out.now c.args.w.now.at c.args.frame.bounds c.args.frame.margin) c.put_opening.ensures.put) c.put_view.ensures.put) c.bytes.ensures.put) c.requires
 
 pub put_style-requires : goal.put_style-requires
 put_style-requires c =
-    fits (step (step (step (step (begun c.args.w.now.out.now c.args.w.now.at c.args.b c.args.m) c.put_opening.ensures.put) c.put_view.ensures.put) c.bytes.ensures.put) c.put_size.ensures.put) c.requires
+    fits (step (step (step (step (begun c.args.w.now.out.now c.args.w.now.at c.args.frame.bounds c.args.frame.margin) c.put_opening.ensures.put) c.put_view.ensures.put) c.bytes.ensures.put) c.put_size.ensures.put) c.requires
 
 pub returns-clause-put : goal.returns-clause-put
 returns-clause-put c =
-    done (step (step (step (step (step (begun c.args.w.now.out.now c.args.w.now.at c.args.b c.args.m) c.put_opening.ensures.put) c.put_view.ensures.put) c.bytes.ensures.put) c.put_size.ensures.put) c.put_style.ensures.put)
+    done (step (step (step (step (step (begun c.args.w.now.out.now c.args.w.now.at c.args.frame.bounds c.args.frame.margin) c.put_opening.ensures.put) c.put_view.ensures.put) c.bytes.ensures.put) c.put_size.ensures.put) c.put_style.ensures.put)

@@ -5,8 +5,8 @@ use Rattle.frames.proofs.heads.put_size.Goals as goal
 
 pub put_across-requires : goal.put_across-requires
 put_across-requires c =
-    rw (size_is c.args.b c.args.m _ seventy_two_is) c.requires
+    rw (size_is c.args.frame.bounds c.args.frame.margin _ seventy_two_is) c.requires
 
 pub returns-clause-put : goal.returns-clause-put
 returns-clause-put c =
-    rw (← size_is c.args.b c.args.m _ seventy_two_is) c.put_across.ensures.put
+    rw (← size_is c.args.frame.bounds c.args.frame.margin _ seventy_two_is) c.put_across.ensures.put

@@ -19,32 +19,32 @@ begun out at b m = start out at (across_text (b.left ⊖ m) ∷ ascii " " ∷ up
 
 pub put_across-requires : goal.put_across-requires
 put_across-requires c =
-    fits (begun c.args.w.now.out.now c.args.w.now.at c.args.b c.args.m) c.requires
+    fits (begun c.args.w.now.out.now c.args.w.now.at c.args.frame.bounds c.args.frame.margin) c.requires
 
 pub byte-requires : goal.byte-requires
 byte-requires c =
-    fits (step (begun c.args.w.now.out.now c.args.w.now.at c.args.b c.args.m) c.put_across.ensures.put) c.requires
+    fits (step (begun c.args.w.now.out.now c.args.w.now.at c.args.frame.bounds c.args.frame.margin) c.put_across.ensures.put) c.requires
 
 pub put_up-requires : goal.put_up-requires
 put_up-requires c =
-    fits (step (step (begun c.args.w.now.out.now c.args.w.now.at c.args.b c.args.m) c.put_across.ensures.put) c.byte.ensures.put) c.requires
+    fits (step (step (begun c.args.w.now.out.now c.args.w.now.at c.args.frame.bounds c.args.frame.margin) c.put_across.ensures.put) c.byte.ensures.put) c.requires
 
 pub byte-requires-2 : goal.byte-requires-2
 byte-requires-2 c =
-    fits (step (step (step (begun c.args.w.now.out.now c.args.w.now.at c.args.b c.args.m) c.put_across.ensures.put) c.byte.ensures.put) c.put_up.ensures.put) c.requires
+    fits (step (step (step (begun c.args.w.now.out.now c.args.w.now.at c.args.frame.bounds c.args.frame.margin) c.put_across.ensures.put) c.byte.ensures.put) c.put_up.ensures.put) c.requires
 
 pub put_across-requires-2 : goal.put_across-requires-2
 put_across-requires-2 c =
-    fits (step (step (step (step (begun c.args.w.now.out.now c.args.w.now.at c.args.b c.args.m) c.put_across.ensures.put) c.byte.ensures.put) c.put_up.ensures.put) c.byte-2.ensures.put) c.requires
+    fits (step (step (step (step (begun c.args.w.now.out.now c.args.w.now.at c.args.frame.bounds c.args.frame.margin) c.put_across.ensures.put) c.byte.ensures.put) c.put_up.ensures.put) c.byte-2.ensures.put) c.requires
 
 pub byte-requires-3 : goal.byte-requires-3
 byte-requires-3 c =
-    fits (step (step (step (step (step (begun c.args.w.now.out.now c.args.w.now.at c.args.b c.args.m) c.put_across.ensures.put) c.byte.ensures.put) c.put_up.ensures.put) c.byte-2.ensures.put) c.put_across-2.ensures.put) c.requires
+    fits (step (step (step (step (step (begun c.args.w.now.out.now c.args.w.now.at c.args.frame.bounds c.args.frame.margin) c.put_across.ensures.put) c.byte.ensures.put) c.put_up.ensures.put) c.byte-2.ensures.put) c.put_across-2.ensures.put) c.requires
 
 pub put_across-requires-3 : goal.put_across-requires-3
 put_across-requires-3 c =
-    fits (step (step (step (step (step (step (begun c.args.w.now.out.now c.args.w.now.at c.args.b c.args.m) c.put_across.ensures.put) c.byte.ensures.put) c.put_up.ensures.put) c.byte-2.ensures.put) c.put_across-2.ensures.put) c.byte-3.ensures.put) c.requires
+    fits (step (step (step (step (step (step (begun c.args.w.now.out.now c.args.w.now.at c.args.frame.bounds c.args.frame.margin) c.put_across.ensures.put) c.byte.ensures.put) c.put_up.ensures.put) c.byte-2.ensures.put) c.put_across-2.ensures.put) c.byte-3.ensures.put) c.requires
 
 pub returns-clause-put : goal.returns-clause-put
 returns-clause-put c =
-    done (step (step (step (step (step (step (step (begun c.args.w.now.out.now c.args.w.now.at c.args.b c.args.m) c.put_across.ensures.put) c.byte.ensures.put) c.put_up.ensures.put) c.byte-2.ensures.put) c.put_across-2.ensures.put) c.byte-3.ensures.put) c.put_across-3.ensures.put)
+    done (step (step (step (step (step (step (step (begun c.args.w.now.out.now c.args.w.now.at c.args.frame.bounds c.args.frame.margin) c.put_across.ensures.put) c.byte.ensures.put) c.put_up.ensures.put) c.byte-2.ensures.put) c.put_across-2.ensures.put) c.byte-3.ensures.put) c.put_across-3.ensures.put)

@@ -6,5 +6,5 @@ use Rattle.geometry.proofs.Squares.{front-root}
 use Rattle.geometry.proofs.rings.front_distance.Goals as goal
 
 pub returns : goal.returns
-returns c =
+returns g c =
     c.root.ensures ∙ ap root (rw (← infinity_is, ← short_is) c.least_square.ensures) ∙ front-root _ _ _

@@ -8,14 +8,14 @@ use Rattle.geometry.proofs.rings.front_length.Goals as goal
 
 pub loop-i-init : goal.loop-i-init
 unfolding length_sum
-loop-i-init c = zero_is
+loop-i-init g c = zero_is
 
 pub loop-i-preserved : goal.loop-i-preserved
-loop-i-preserved c =
-    length_step _ _ _ _ (record { first = c.node_point-a.ensures; second = rw (← c.next_of.ensures.value) c.node_point-b.ensures }) _ _ c.loop-i.invariant c.side_length-sum.ensures
+loop-i-preserved g c =
+    length_step _ _ _ _ (record { first = c.at-a.ensures; second = rw (← c.size-n.ensures, ← c.next_of.ensures.value) c.at-b.ensures }) _ _ c.loop-i.invariant c.side_length-sum.ensures
 
 pub returns : goal.returns
 unfolding front_length
-returns c =
-    let e : c.loop-i.i ≡ length c.args.nodes.now = omega arith in
+returns g c =
+    let e : c.loop-i.i ≡ (g.R.Ring.ring c.args.ring.now).size = omega (arith, c.size-n.ensures) in
     rw (c.loop-i.invariant, e)

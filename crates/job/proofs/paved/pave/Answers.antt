@@ -1,61 +1,75 @@
 -- `job::paved::pave` meets its contract.
 use mathlib.Core.Path.{◌≡◌, sym, ◌∙◌, ap}
-use lib.ListN.{length}
-use Rattle.state.specs.State.{State, Held, Lengths, zeros, reading}
-use Rattle.state.specs.Outcome.{Outcome, gives}
-use Rattle.state.specs.Refusals.{answered}
+use Rattle.std.proofs.lemmas.Result.{err_from_is_err_and}
+use Rattle.state.specs.State.{Held, Lengths, no_counts}
 use Rattle.state.specs.Lent.{held_in, lengths_in}
-use Rattle.state.specs.Call.{held, job_left}
-use Rattle.state.specs.Sound.{Sound, Clean}
-use Rattle.input.specs.Job.{Job, job_of}
-use Rattle.state.proofs.Lending.{lent_long}
-use Rattle.rules.specs.Passes.{some_passes}
-use Rattle.rules.specs.Closing.{closings}
-use Rattle.passes.specs.Passed.{passed}
+use Rattle.state.specs.Call.{held}
+use Rattle.input.specs.Job.{Job, accepted_of, input_number}
+use Rattle.input.proofs.Shape.{shape_of}
+use Rattle.sampling.proofs.Calling.{sampled_call}
+use Rattle.passes.specs.Passed.{written_of}
 use Rattle.passes.proofs.Runs.{passes_done, passes_refused}
-use Rattle.job.proofs.Paving.{cleared, refused_first, given_first}
+use Rattle.job.proofs.Paving.{Started, made, sample_refused, started, start_sound, start-clean, start_passes, passes_refuse, passes_give, closed}
 use Rattle.job.proofs.paved.pave.Goals as goal
 
-pub close_job-requires : goal.close_job-requires
-close_job-requires c =
-    let given : Held = held_in c.args.lent.now c.args.counts in
-    let job_at : Job = job_of c.args.job.now in
-    let rows : Outcome State = some_passes job_at c.args.job.now.options.max_row_rounds (reading given) in
-    let left_by : Held = (held_in c.some_passes.new.lent c.args.counts) in
-    let held_then : Held = (let b = left_by in
-    held b.points b.quads b.front_nodes b.front_lengths c.in-Ok.laid) in
-    let done : Sound held_then × Clean held_then × (rows ≡ gives (reading held_then)) = (passes_done job_at c.args.job.now.options.max_row_rounds given c.requires.sound left_by _
-    (sym (ap (λ r. passed (answered r) left_by) c.in-Ok.is) ∙ c.some_passes.ensures.passed)) in
-    let d = done in record {
-      sound = d.0;
-      clean = d.1;
+pub sample_accepted-requires : goal.sample_accepted-requires
+sample_accepted-requires c = shape_of _ c.in_ok-accepted.ensures.same c.in_ok-accepted.ensures.value
+
+pub returns-in_err-start-clause-passed : goal.returns-in_err-start-clause-passed
+returns-in_err-start-clause-passed c =
+    let p = err_from_is_err_and c.from_residual-in_err-start.result c.from_residual-in_err-start.ensures.1 in
+    let l : Lengths = lengths_in c.args.lent.now in
+    let j : Job = accepted_of c.in_ok-accepted.accepted in
+    let input : 0 ≡ input_number j l = c.in_ok-accepted.ensures.value ∙ ap (λ (x : Job). input_number x l) (sym c.in_ok-accepted.ensures.same) in
+    let left_by : Held = held_in c.sample_accepted.new.lent no_counts in
+    rw (p.1, p.2) (ap written_of (sample_refused j l _ left_by input c.in_err-start.ensures.left ∙ ap (λ (x : Job). made x l) c.in_ok-accepted.ensures.same))
+
+pub some_passes-requires : goal.some_passes-requires
+some_passes-requires c =
+    let l : Lengths = lengths_in c.args.lent.now in
+    let j : Job = accepted_of c.in_ok-accepted.accepted in
+    let input : 0 ≡ input_number j l = c.in_ok-accepted.ensures.value ∙ ap (λ (x : Job). input_number x l) (sym c.in_ok-accepted.ensures.same) in
+    let left_by : Held = held_in c.sample_accepted.new.lent no_counts in
+    let b : Held = held left_by.points left_by.quads left_by.front_nodes left_by.front_lengths c.in_ok-start.start in
+    let start : Started j l b = started j l c.in_ok-start.start left_by (c.in_ok-start.ensures.left ∙ sampled_call j l input) in record {
+      sound = start_sound j l b start;
+      clean = start-clean j l b start;
+      most_bound = start_passes j l b start;
     }
 
-pub returns-in-Err-clause-left : goal.returns-in-Err-clause-left
-returns-in-Err-clause-left c =
-    let given : Held = held_in c.args.lent.now c.args.counts in
-    let lengths_at : Lengths = lengths_in c.args.lent.now in
-    let job_at : Job = job_of c.args.job.now in
-    let rows : Outcome State = some_passes job_at c.args.job.now.options.max_row_rounds (reading given) in
-    let left_by : Held = (held_in c.some_passes.new.lent c.args.counts) in
-    let ran = c.some_passes in
-    let r = passes_refused job_at c.args.job.now.options.max_row_rounds given c.requires.sound left_by _ (rw c.in-Err.is at ran.ensures.passed) in
-    cleared lengths_at _ _ (refused_first rows (closings c.args.job.now.options.corner_limit) _ r) _
-    (c.clear.ensures.cleared
-    ∙ ap zeros (lent_long ran.ensures.same))
+pub returns-in_err-laid-clause-passed : goal.returns-in_err-laid-clause-passed
+returns-in_err-laid-clause-passed c =
+    let p = err_from_is_err_and c.from_residual-in_err-laid.result c.from_residual-in_err-laid.ensures.1 in
+    let l : Lengths = lengths_in c.args.lent.now in
+    let j : Job = accepted_of c.in_ok-accepted.accepted in
+    let input : 0 ≡ input_number j l = c.in_ok-accepted.ensures.value ∙ ap (λ (x : Job). input_number x l) (sym c.in_ok-accepted.ensures.same) in
+    let left_by : Held = held_in c.sample_accepted.new.lent no_counts in
+    let b : Held = held left_by.points left_by.quads left_by.front_nodes left_by.front_lengths c.in_ok-start.start in
+    let start : Started j l b = started j l c.in_ok-start.start left_by (c.in_ok-start.ensures.left ∙ sampled_call j l input) in
+    let r = passes_refused j j.options.max_row_rounds b (start_sound j l b start) (held_in c.some_passes.new.lent no_counts) _ c.in_err-laid.ensures.passed in
+    rw (p.1, p.2) (ap written_of (passes_refuse j l b start _ r ∙ ap (λ (x : Job). made x l) c.in_ok-accepted.ensures.same))
 
-pub returns-in-Ok-clause-left : goal.returns-in-Ok-clause-left
-returns-in-Ok-clause-left c =
-    let given : Held = held_in c.args.lent.now c.args.counts in
-    let lengths_at : Lengths = lengths_in c.args.lent.now in
-    let job_at : Job = job_of c.args.job.now in
-    let rows : Outcome State = some_passes job_at c.args.job.now.options.max_row_rounds (reading given) in
-    let left_by : Held = (held_in c.some_passes.new.lent c.args.counts) in
-    let held_then : Held = (let b = left_by in
-    held b.points b.quads b.front_nodes b.front_lengths c.in-Ok.laid) in
-    let done : Sound held_then × Clean held_then × (rows ≡ gives (reading held_then)) = (passes_done job_at c.args.job.now.options.max_row_rounds given c.requires.sound left_by _
-    (sym (ap (λ r. passed (answered r) left_by) c.in-Ok.is) ∙ c.some_passes.ensures.passed)) in
-    let same = lent_long c.some_passes.ensures.same in
-    c.close_job.ensures.left
-    ∙ ap (λ l. job_left l (closings c.args.job.now.options.corner_limit (reading held_then))) same
-    ∙ ap (job_left lengths_at) (given_first rows (closings c.args.job.now.options.corner_limit) _ done.2)
+pub close_small_fronts-requires : goal.close_small_fronts-requires
+close_small_fronts-requires c =
+    let l : Lengths = lengths_in c.args.lent.now in
+    let j : Job = accepted_of c.in_ok-accepted.accepted in
+    let input : 0 ≡ input_number j l = c.in_ok-accepted.ensures.value ∙ ap (λ (x : Job). input_number x l) (sym c.in_ok-accepted.ensures.same) in
+    let left_by : Held = held_in c.sample_accepted.new.lent no_counts in
+    let b : Held = held left_by.points left_by.quads left_by.front_nodes left_by.front_lengths c.in_ok-start.start in
+    let start : Started j l b = started j l c.in_ok-start.start left_by (c.in_ok-start.ensures.left ∙ sampled_call j l input) in
+    let d = passes_done j j.options.max_row_rounds b (start_sound j l b start) (held_in c.some_passes.new.lent no_counts) _ c.in_ok-laid.ensures.passed in record {
+      sound = d.0;
+      clean = λ h. d.1;
+    }
+
+pub returns-clause-passed : goal.returns-clause-passed
+returns-clause-passed c =
+    let l : Lengths = lengths_in c.args.lent.now in
+    let j : Job = accepted_of c.in_ok-accepted.accepted in
+    let input : 0 ≡ input_number j l = c.in_ok-accepted.ensures.value ∙ ap (λ (x : Job). input_number x l) (sym c.in_ok-accepted.ensures.same) in
+    let left_by : Held = held_in c.sample_accepted.new.lent no_counts in
+    let b : Held = held left_by.points left_by.quads left_by.front_nodes left_by.front_lengths c.in_ok-start.start in
+    let start : Started j l b = started j l c.in_ok-start.start left_by (c.in_ok-start.ensures.left ∙ sampled_call j l input) in
+    let d = passes_done j j.options.max_row_rounds b (start_sound j l b start) (held_in c.some_passes.new.lent no_counts) _ c.in_ok-laid.ensures.passed in
+    let all = passes_give j l b start _ d.2 ∙ ap (λ (x : Job). made x l) c.in_ok-accepted.ensures.same in
+    closed (held_in c.some_passes.new.lent c.in_ok-laid.laid) _ _ (held_in c.close_small_fronts.new.lent c.in_ok-laid.laid) no_counts c.close_small_fronts.ensures.left ∙ ap written_of all

@@ -19,4 +19,4 @@ returns-then-n-eq0 c =
 
 pub returns : goal.returns
 returns c =
-    size-read c.args.text.now c.args.at c.field_end-next.result c.field_end-next.ensures c.requires (sym c.in_ok-n.ensures) c.if-n-eq0.false
+    rw c.from-value.ensures (size-read c.args.text.now c.args.at c.field_end-next.result c.field_end-next.ensures c.requires (sym c.in_ok-n.ensures) c.if-n-eq0.false)

@@ -38,7 +38,7 @@ returns-then-n-eq0 c =
 pub returns-then-text-at-eq45 : goal.returns-then-text-at-eq45
 returns-then-text-at-eq45 c =
     let m = minus (goal.at.returns-then-text-at-eq45 c).Then-text-at-eq45 in
-    minus_read c.args.text.now c.args.at c.field_end-next.result c.field_end-next.ensures c.requires c.in_ok-n.n (m ∙ ap negated (sym c.in_ok-n.ensures)) c.if-n-eq0.false
+    rw c.from-value.ensures (minus_read c.args.text.now c.args.at c.field_end-next.result c.field_end-next.ensures c.requires c.in_ok-n.n (m ∙ ap negated (sym c.in_ok-n.ensures)) c.if-n-eq0.false)
 
 pub natural-requires-2 : goal.natural-requires-2
 natural-requires-2 c =
@@ -64,4 +64,4 @@ returns c =
       | then-at-next+else-text-at-eq45 w ↦ plain_whole c.args.text.now c.args.at c.field_end-next.result coordinate_most within.1 w.if-at-next.true w.if-text-at-eq45.false
       | else-at-next w ↦ no_whole c.args.text.now c.args.at c.field_end-next.result coordinate_most within.1 (omega arith)
     ] in
-    whole-read c.args.text.now c.args.at c.field_end-next.result c.field_end-next.ensures c.requires (plain ∙ ap positive (sym c.in_ok-n-2.ensures))
+    rw c.from-value-2.ensures (whole-read c.args.text.now c.args.at c.field_end-next.result c.field_end-next.ensures c.requires (plain ∙ ap positive (sym c.in_ok-n-2.ensures)))

@@ -1,15 +1,12 @@
-use mathlib.Core.Path.{refl, ◌∙◌}
+use mathlib.Core.Path.{◌∙◌}
 use native.Mathlib.Omega.{arith}
 use Rattle.job_text.proofs.Points.{Line, line, no_line}
-use Rattle.job_text.proofs.Following.{left-start, left_step, left_done}
+use Rattle.job_text.proofs.Following.{left_step, left_done}
 use Rattle.job_text.proofs.loops.read_loop.Goals as goal
 use Rattle.job_text.proofs.loops.read_loop.Goals.{In-Some}
 
 point : (c : In-Some) → Line c.args.text.now c.loop-line.next c.in-Some.line
 point c = line _ _ c.loop-line.invariant.1.within.1 _ c.in-Some.ensures
-
-pub loop-line-init : goal.loop-line-init
-loop-line-init c = (refl, left-start c.args.text.now c.args.at c.args.pairs c.args.coords.now c.requires.0)
 
 pub loop-line-smaller : goal.loop-line-smaller
 loop-line-smaller c = let w = (point (goal.at.loop-line-smaller c).In-Some).within in omega arith

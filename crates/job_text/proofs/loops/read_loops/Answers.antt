@@ -5,8 +5,8 @@ use Rattle.job_text.proofs.Following.{loop_place}
 use Rattle.job_text.proofs.Storing.{loops_step}
 use Rattle.job_text.proofs.loops.read_loops.Goals as goal
 
-pub overflow_cast-outer : goal.overflow_cast-outer
-overflow_cast-outer c =
+pub narrow-requires : goal.narrow-requires
+narrow-requires c =
     let p = loop_place _ c.args.at 0 _ _ c.read_loop-outer.result c.requires.0 c.read_loop-outer.ensures in
     let s = c.requires.1 in
     let o = c.requires.2 in
@@ -19,4 +19,4 @@ read_holes-requires c =
 
 pub returns : goal.returns
 returns c =
-    c.read_holes.ensures ∙ sym (loops_step c.args.text.now c.args.at c.args.coords.now c.args.loop_lengths.now c.requires.0 _ _ c.read_loop-outer.result c.read_loop-outer.ensures c.store.ensures)
+    c.read_holes.ensures ∙ sym (loops_step c.args.text.now c.args.at c.args.coords.now c.args.loop_lengths.now c.requires.0 _ _ c.read_loop-outer.result c.read_loop-outer.ensures (rw (sym c.narrow.ensures) c.store.ensures))

@@ -14,5 +14,5 @@ pub loop-i-preserved : goal.loop-i-preserved
 loop-i-preserved c =
     let l = c.loop-i in
     let long : length l.first ≡ point_limit = l.auto.first ∙ zeros_long point_limit c.args.first.now c.requires.first_value in
-    let small : c.wide-node.result < point_limit = rw c.wide-node.ensures (c.requires.by_index l.i c.loop-i-test.true) in
-    rw c.narrow.ensures (link_step c.args.lows.now l.behind l.first l.i c.wide-node.result l.invariant c.wide-node.ensures small long (omega arith))
+    let small : c.from-node.result < point_limit = rw c.from-node.ensures (c.requires.by_index l.i c.loop-i-test.true) in
+    rw c.narrow.ensures (link_step c.args.lows.now l.behind l.first l.i c.from-node.result l.invariant c.from-node.ensures small long (omega arith))

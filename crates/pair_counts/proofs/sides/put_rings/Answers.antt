@@ -15,36 +15,36 @@ next_ring within fits starts is = record { within = within; fits = fits; starts 
 
 pub loop-n-init : goal.loop-n-init
 loop-n-init c =
-    let lengths = c.args.lengths.now in
-    let nodes = c.args.nodes.now in
+    let lengths = c.args.rings.now.lengths.now in
+    let nodes = c.args.rings.now.nodes.now in
     (sum_none, rings-start lower lengths nodes c.args.lows.now c.args.at, rings-start higher lengths nodes c.args.highs.now c.args.at)
 
 pub overflow_add-end : goal.overflow_add-end
 overflow_add-end c =
-    let w = ring_within (next_ring c.loop-n-test.true c.requires.lengths_in_bounds c.loop-n.invariant.0 c.wide.ensures) in omega arith
+    let w = ring_within (next_ring c.loop-n-test.true c.args.rings.now.fits c.loop-n.invariant.0 c.from.ensures) in omega arith
 
 pub overflow_add-at : goal.overflow_add-at
 overflow_add-at c =
-    let w = ring_within (next_ring c.loop-n-test.true c.requires.lengths_in_bounds c.loop-n.invariant.0 c.wide.ensures) in omega arith
+    let w = ring_within (next_ring c.loop-n-test.true c.args.rings.now.fits c.loop-n.invariant.0 c.from.ensures) in omega arith
 
-pub offset_bounds-nodes-start : goal.offset_bounds-nodes-start
-offset_bounds-nodes-start c =
-    let w = ring_within (next_ring c.loop-n-test.true c.requires.lengths_in_bounds c.loop-n.invariant.0 c.wide.ensures) in omega arith
+pub offset_bounds-rings-start : goal.offset_bounds-rings-start
+offset_bounds-rings-start c =
+    let w = ring_within (next_ring c.loop-n-test.true c.args.rings.now.fits c.loop-n.invariant.0 c.from.ensures) in omega arith
 
 pub slice_bounds-put_ring-end : goal.slice_bounds-put_ring-end
 slice_bounds-put_ring-end c =
-    let w = ring_within (next_ring c.loop-n-test.true c.requires.lengths_in_bounds c.loop-n.invariant.0 c.wide.ensures) in omega arith
+    let w = ring_within (next_ring c.loop-n-test.true c.args.rings.now.fits c.loop-n.invariant.0 c.from.ensures) in omega arith
 
 pub put_ring-requires : goal.put_ring-requires
 put_ring-requires c =
-    let next = next_ring c.loop-n-test.true c.requires.lengths_in_bounds c.loop-n.invariant.0 c.wide.ensures in
+    let next = next_ring c.loop-n-test.true c.args.rings.now.fits c.loop-n.invariant.0 c.from.ensures in
     let w = ring_within next in
     let r = ring_long next in
     (omega arith, omega arith)
 
 pub loop-n-preserved : goal.loop-n-preserved
 loop-n-preserved c =
-    let next = next_ring c.loop-n-test.true c.requires.lengths_in_bounds c.loop-n.invariant.0 c.wide.ensures in
+    let next = next_ring c.loop-n-test.true c.args.rings.now.fits c.loop-n.invariant.0 c.from.ensures in
     let l = c.loop-n in
     let at = c.args.at in (
       start_more next,

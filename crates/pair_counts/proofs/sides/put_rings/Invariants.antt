@@ -10,6 +10,6 @@ use Rattle.pair_counts.proofs.sides.put_rings.Given as goal
 
 abbrev pub invariant-loop-n : goal.invariant-loop-n
 invariant-loop-n l =
-    (l.start ≡ sum_of (take l.n-index l.lengths))
-    × (take (l.at + l.start) l.lows ≡ take l.at l.initial.lows ++ ends_of_all lower (cut (take l.n-index l.lengths) l.nodes))
-    × (take (l.at + l.start) l.highs ≡ take l.at l.initial.highs ++ ends_of_all higher (cut (take l.n-index l.lengths) l.nodes))
+    (l.start ≡ sum_of (take l.n-index l.rings.lengths.now))
+    × (take (l.at + l.start) l.lows ≡ take l.at l.initial.lows ++ ends_of_all lower (cut (take l.n-index l.rings.lengths.now) l.rings.nodes.now))
+    × (take (l.at + l.start) l.highs ≡ take l.at l.initial.highs ++ ends_of_all higher (cut (take l.n-index l.rings.lengths.now) l.rings.nodes.now))

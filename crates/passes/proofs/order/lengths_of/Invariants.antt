@@ -8,4 +8,6 @@ use Rattle.passes.specs.Order.{length_in, length_of}
 use Rattle.passes.proofs.order.lengths_of.Given as goal
 
 abbrev pub invariant-loop-i : goal.invariant-loop-i
-invariant-loop-i l = (l.start ≡ sum_of (take l.i l.sizes)) × (length l.lengths ≡ front_limit) × ((k : ℕ) → k < l.i → length_in l.lengths k ≡ length_of l.points l.front_nodes l.sizes k)
+invariant-loop-i l =
+    (l.start ≡ sum_of (take l.i l.fronts.lengths.now)) × (length l.lengths ≡ front_limit)
+    × ((k : ℕ) → k < l.i → length_in l.lengths k ≡ length_of l.fronts.points.now l.fronts.nodes.now l.fronts.lengths.now k)

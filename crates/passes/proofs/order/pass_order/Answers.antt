@@ -6,4 +6,5 @@ use Rattle.passes.proofs.order.pass_order.Goals as goal
 
 pub returns : goal.returns
 returns c =
-    order_measured (length_in c.lengths_of-lengths.result) (length_of c.args.points.now c.args.front_nodes.now c.args.sizes.now) (length c.args.sizes.now) c.sorted.result c.lengths_of-lengths.ensures c.sorted.ensures
+    let f = c.args.fronts.now in
+    order_measured (length_in c.lengths_of-lengths.result) (length_of f.points.now f.nodes.now f.lengths.now) (length f.lengths.now) c.sorted.result c.lengths_of-lengths.ensures c.sorted.ensures

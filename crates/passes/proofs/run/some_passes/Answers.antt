@@ -6,7 +6,7 @@ use Rattle.state.specs.State.{Held}
 use Rattle.state.specs.Lent.{held_in}
 use Rattle.state.proofs.Lending.{same_again}
 use Rattle.state.specs.Refusals.{answered}
-use Rattle.input.specs.Job.{job_of}
+use Rattle.input.specs.Job.{accepted_of}
 use Rattle.passes.proofs.Runs.{ran_refused, ran_last, ran_more, ran_all}
 use Rattle.passes.proofs.run.some_passes.Goals as goal
 
@@ -15,22 +15,22 @@ returns-in_err-after-clause-passed c =
     let p = err_from_is_err_and c.from_residual.result c.from_residual.ensures.1 in
     let given : Held = held_in c.args.lent.now c.args.counts in
     let w = c.in_err-after.was in
-    rw (p.1, p.2) (rw w at (ran_refused (job_of c.args.job.now) c.args.most given c.loop.counter _ c.loop.invariant.0 (omega arith) _ _ c.one_pass.ensures.passed _ (ap answered w) given))
+    rw (p.1, p.2) (rw w at (ran_refused (accepted_of c.args.job.now) c.args.most given c.loop.counter _ c.loop.invariant.0 (omega arith) _ _ c.one_pass.ensures.passed _ (ap answered w) given))
 
 pub returns-then-after-c-clause-passed : goal.returns-then-after-c-clause-passed
 returns-then-after-c-clause-passed c =
     let given : Held = held_in c.args.lent.now c.args.counts in
-    ran_last (job_of c.args.job.now) c.args.most given c.loop.counter _ c.loop.invariant.0 (omega arith) _ _ c.one_pass.ensures.passed _ (ap answered c.in_ok-after.was) c.if-after-c.true _ refl
+    ran_last (accepted_of c.args.job.now) c.args.most given c.loop.counter _ c.loop.invariant.0 (omega arith) _ _ c.one_pass.ensures.passed _ (ap answered c.in_ok-after.was) c.if-after-c.true _ refl
 
 pub loop-preserved : goal.loop-preserved
 loop-preserved c =
     let given : Held = held_in c.args.lent.now c.args.counts in
-    (ran_more (job_of c.args.job.now) c.args.most given c.loop.counter _ c.loop.invariant.0 (omega arith) _ _ c.one_pass.ensures.passed _ (ap answered c.in_ok-after.was) c.if-after-c.false, same_again c.loop.invariant.1 c.one_pass.ensures.same)
+    (ran_more (accepted_of c.args.job.now) c.args.most given c.loop.counter _ c.loop.invariant.0 (omega arith) _ _ c.one_pass.ensures.passed _ (ap answered c.in_ok-after.was) c.if-after-c.false, same_again c.loop.invariant.1 c.one_pass.ensures.same)
 
 pub returns-clause-passed : goal.returns-clause-passed
 returns-clause-passed c =
     let given : Held = held_in c.args.lent.now c.args.counts in
-    ran_all (job_of c.args.job.now) c.args.most given c.loop.counter _ c.loop.invariant.0 (omega arith)
+    ran_all (accepted_of c.args.job.now) c.args.most given c.loop.counter _ c.loop.invariant.0 (omega arith)
 
 pub returns-clause-same : goal.returns-clause-same
 returns-clause-same c = c.loop.invariant.1

@@ -14,15 +14,15 @@ use Rattle.picture.proofs.drawing.put_job.Goals as goal
 
 pub put_words-requires : goal.put_words-requires
 put_words-requires c =
-    let h = words_length 4 in
+    let h = words_length c.number.result in
     let g = c.requires.picture_room_in_bounds in
     omega arith
 
 pub returns-then-job-eq0 : goal.returns-then-job-eq0
 returns-then-job-eq0 c =
-    let h = words_length 4 in
-    let w = c.put_words.ensures.put in
-    let p = w.place in record {
+    let h = words_length c.number.result in
+    let w = rw c.number.ensures at c.put_words.ensures.put in
+    let p = c.put_words.ensures.put.place in record {
       put = put_same (no_point (job_of c.args.job.now) c.if-job-eq0.true) w;
       upper_bound = omega arith;
       same = c.put_words.ensures.same;

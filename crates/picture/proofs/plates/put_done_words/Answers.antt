@@ -1,13 +1,9 @@
 -- `picture::plates::put_done_words` meets its contract.
 use Rattle.picture.proofs.plates.put_done_words.Goals as goal
 
-pub worst-least-requires : goal.worst-least-requires
-worst-least-requires c =
-    c.requires.quads_in_bounds
-
 pub put_done-requires : goal.put_done-requires
 put_done-requires c =
-    rw c.worst-least.ensures c.requires.room
+    rw c.worst-least.ensures c.requires
 
 pub returns-clause-put : goal.returns-clause-put
 returns-clause-put c =

@@ -7,7 +7,6 @@ use lib.ListN.{length}
 use Rattle.shapes.specs.Shapes.{nodes_text}
 use Rattle.picture.specs.Plates.{dots_text}
 use Rattle.shapes.proofs.Pieces.{Going, start, fits, step, done}
-use native.Mathlib.Omega.{arith}
 use Rattle.picture.proofs.plates.put_dots.Goals as goal
 
 -- the text in its pieces
@@ -17,18 +16,15 @@ begun out at points laid = start out at (nodes_text 110 points (length points / 
 
 pub put_nodes-requires : goal.put_nodes-requires
 put_nodes-requires c =
-    record {
-      room = fits (begun c.args.w.now.out.now c.args.w.now.at c.args.points.now c.args.laid) c.requires;
-      n_in_bounds = omega arith;
-    }
+    let a = c.all-all.ensures in
+    rw (a.points, a.count) (fits (begun c.args.w.now.out.now c.args.w.now.at c.args.points.now c.args.laid) c.requires)
 
 pub put_nodes-requires-2 : goal.put_nodes-requires-2
 put_nodes-requires-2 c =
-    let e = c.saturating_sub-sampled.ensures in record {
-      room = rw e (fits (step (begun c.args.w.now.out.now c.args.w.now.at c.args.points.now c.args.laid) c.put_nodes.ensures.put) c.requires);
-      n_in_bounds = omega arith;
-    }
+    let a = c.all-all.ensures in
+    rw (c.saturating_sub.ensures, a.count) (fits (step (begun c.args.w.now.out.now c.args.w.now.at c.args.points.now c.args.laid) (rw (a.points, a.count) at c.put_nodes.ensures.put)) c.requires)
 
 pub returns-clause-put : goal.returns-clause-put
 returns-clause-put c =
-    done (step (step (begun c.args.w.now.out.now c.args.w.now.at c.args.points.now c.args.laid) c.put_nodes.ensures.put) (rw c.saturating_sub-sampled.ensures at c.put_nodes-2.ensures.put))
+    let a = c.all-all.ensures in
+    done (step (step (begun c.args.w.now.out.now c.args.w.now.at c.args.points.now c.args.laid) (rw (a.points, a.count) at c.put_nodes.ensures.put)) (rw (c.saturating_sub.ensures, a.count) at c.put_nodes-2.ensures.put))

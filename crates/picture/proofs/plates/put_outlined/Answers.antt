@@ -18,27 +18,24 @@ begun out at b m coords loops n = start out at (head_text (view_text (boxed b) m
 
 pub put_head-requires : goal.put_head-requires
 put_head-requires c =
-    fits (begun c.args.w.now.out.now c.args.w.now.at c.args.b c.args.m c.args.coords.now c.args.loops.now c.args.n) c.requires.room
+    fits (begun c.args.w.now.out.now c.args.w.now.at c.args.frame.bounds c.args.frame.margin c.args.outline.now.coords.now c.args.outline.now.loop_lengths.now c.args.n) c.requires
 
 pub put_outline-requires : goal.put_outline-requires
 put_outline-requires c =
-    record {
-      room = fits (step (begun c.args.w.now.out.now c.args.w.now.at c.args.b c.args.m c.args.coords.now c.args.loops.now c.args.n) c.put_head.ensures.put) c.requires.room;
-      loops_in_bounds = c.requires.loops_in_bounds;
-    }
+    fits (step (begun c.args.w.now.out.now c.args.w.now.at c.args.frame.bounds c.args.frame.margin c.args.outline.now.coords.now c.args.outline.now.loop_lengths.now c.args.n) c.put_head.ensures.put) c.requires
 
 pub put_caption-requires : goal.put_caption-requires
 put_caption-requires c =
-    fits (step (step (begun c.args.w.now.out.now c.args.w.now.at c.args.b c.args.m c.args.coords.now c.args.loops.now c.args.n) c.put_head.ensures.put) c.put_outline.ensures.put) c.requires.room
+    fits (step (step (begun c.args.w.now.out.now c.args.w.now.at c.args.frame.bounds c.args.frame.margin c.args.outline.now.coords.now c.args.outline.now.loop_lengths.now c.args.n) c.put_head.ensures.put) c.put_outline.ensures.put) c.requires
 
 pub put_refused-requires : goal.put_refused-requires
 put_refused-requires c =
-    fits (step (step (step (begun c.args.w.now.out.now c.args.w.now.at c.args.b c.args.m c.args.coords.now c.args.loops.now c.args.n) c.put_head.ensures.put) c.put_outline.ensures.put) c.put_caption.ensures.put) c.requires.room
+    fits (step (step (step (begun c.args.w.now.out.now c.args.w.now.at c.args.frame.bounds c.args.frame.margin c.args.outline.now.coords.now c.args.outline.now.loop_lengths.now c.args.n) c.put_head.ensures.put) c.put_outline.ensures.put) c.put_caption.ensures.put) c.requires
 
 pub put_closing-requires : goal.put_closing-requires
 put_closing-requires c =
-    fits (step (step (step (step (begun c.args.w.now.out.now c.args.w.now.at c.args.b c.args.m c.args.coords.now c.args.loops.now c.args.n) c.put_head.ensures.put) c.put_outline.ensures.put) c.put_caption.ensures.put) c.put_refused.ensures.put) c.requires.room
+    fits (step (step (step (step (begun c.args.w.now.out.now c.args.w.now.at c.args.frame.bounds c.args.frame.margin c.args.outline.now.coords.now c.args.outline.now.loop_lengths.now c.args.n) c.put_head.ensures.put) c.put_outline.ensures.put) c.put_caption.ensures.put) c.put_refused.ensures.put) c.requires
 
 pub returns-clause-put : goal.returns-clause-put
 returns-clause-put c =
-    done (step (step (step (step (step (begun c.args.w.now.out.now c.args.w.now.at c.args.b c.args.m c.args.coords.now c.args.loops.now c.args.n) c.put_head.ensures.put) c.put_outline.ensures.put) c.put_caption.ensures.put) c.put_refused.ensures.put) c.put_closing.ensures.put)
+    done (step (step (step (step (step (begun c.args.w.now.out.now c.args.w.now.at c.args.frame.bounds c.args.frame.margin c.args.outline.now.coords.now c.args.outline.now.loop_lengths.now c.args.n) c.put_head.ensures.put) c.put_outline.ensures.put) c.put_caption.ensures.put) c.put_refused.ensures.put) c.put_closing.ensures.put)

@@ -7,25 +7,26 @@ use Rattle.picture.proofs.Plating.{outlined_is}
 use native.Mathlib.Omega.{arith}
 use Rattle.picture.proofs.plates.put_refusal.Goals as goal
 
+pub invariant_of-outline : goal.invariant_of-outline
+invariant_of-outline c = record { fits = c.requires.few.points }
+
 pub put_outlined-requires : goal.put_outlined-requires
 put_outlined-requires c =
     let few = c.requires.few in
-    let h = outlined_fits (boxed c.box_of-b.result) c.margin_of-m.result c.args.job.now.coords.now c.args.job.now.loop_lengths.now c.args.n few in
-    let g = c.requires.picture_room_in_bounds in record {
-      room = omega arith;
-      loops_in_bounds = few.points;
-    }
+    let h = outlined_fits (boxed c.around-frame.result.bounds) c.around-frame.result.margin c.args.job.now.coords.now c.args.job.now.loop_lengths.now c.args.n few in
+    let g = c.requires.picture_room_in_bounds in
+    omega arith
 
 pub returns : goal.returns
 returns c =
     let few = c.requires.few in
-    let b = boxed c.box_of-b.result in
-    let m = c.margin_of-m.result in
+    let b = boxed c.around-frame.result.bounds in
+    let m = c.around-frame.result.margin in
     let a = c.args in
     let h = outlined_fits b m a.job.now.coords.now a.job.now.loop_lengths.now a.n few in
     let w = c.put_outlined.ensures.put in
     let p = w.place in record {
-      put = put_same (outlined_is b m (job_of a.job.now) c.box_of-b.ensures c.margin_of-m.ensures a.n) w;
+      put = put_same (outlined_is b m (job_of a.job.now) c.around-frame.ensures.bounds c.around-frame.ensures.margin a.n) w;
       upper_bound = omega arith;
       same = c.put_outlined.ensures.same;
     }

@@ -1,8 +1,8 @@
 use mathlib.Core.Path.{◌≡◌, refl}
 use native.Mathlib.Omega.{arith}
-use Rattle.geometry.specs.Rings.{Ring, ring_of}
+use Rattle.geometry.specs.Rings.{Ring}
 use Rattle.placing.specs.Placed as laid
-use Rattle.planning.specs.Backwards.{turned_if}
+use Rattle.planning.specs.Backwards.{read_ring}
 use Rattle.placing.proofs.Placing.{placed_step, count_step, placed_few, room}
 use Rattle.placing.proofs.place.place.Goals as goal
 
@@ -13,28 +13,28 @@ loop-i-init c = (refl, refl, omega arith)
 pub place_side-placed-requires-clause-i_bound : goal.place_side-placed-requires-clause-i_bound
 place_side-placed-requires-clause-i_bound c =
     let l = c.loop-i in
-    let fits = room c.args.h c.args.corner_margin (turned_if c.args.back (ring_of c.args.pts.now c.args.n)) l.i l.placed c.loop-i-test.true l.invariant.0 in
+    let fits = room c.args.spacing.h c.args.spacing.corner_margin (read_ring c.args.ring) l.i l.placed c.loop-i-test.true l.invariant.0 in
     (omega (arith, fits, c.requires.n_bound_2.0), omega arith)
 
 pub overflow_add-placed : goal.overflow_add-placed
 overflow_add-placed c =
-    let r : Ring = turned_if c.args.back (ring_of c.args.pts.now c.args.n) in
+    let r : Ring = read_ring c.args.ring in
     let l = c.loop-i in
-    let fits = room c.args.h c.args.corner_margin r l.i l.placed c.loop-i-test.true l.invariant.0 in
-    omega (arith, fits, placed_few c.args.h c.args.corner_margin r l.i, c.place_side-placed.ensures.0, c.requires.n_bound_2.0)
+    let fits = room c.args.spacing.h c.args.spacing.corner_margin r l.i l.placed c.loop-i-test.true l.invariant.0 in
+    omega (arith, fits, placed_few c.args.spacing.h c.args.spacing.corner_margin r l.i, c.place_side-placed.ensures.0, c.requires.n_bound_2.0)
 
 pub loop-i-preserved : goal.loop-i-preserved
 loop-i-preserved c =
-    let r : Ring = turned_if c.args.back (ring_of c.args.pts.now c.args.n) in
+    let r : Ring = read_ring c.args.ring in
     let l = c.loop-i in
     let more = c.place_side-placed.ensures in
-    let fits = room c.args.h c.args.corner_margin r l.i l.placed c.loop-i-test.true l.invariant.0 in (
-      count_step c.args.h c.args.corner_margin r l.i _ _ l.invariant.0 more.0,
-      placed_step c.args.h c.args.corner_margin r l.i c.args.at l.placed _ _ _ l.invariant.0 l.invariant.1 more.1,
-      omega (arith, fits, placed_few c.args.h c.args.corner_margin r l.i, more.0),
+    let fits = room c.args.spacing.h c.args.spacing.corner_margin r l.i l.placed c.loop-i-test.true l.invariant.0 in (
+      count_step c.args.spacing.h c.args.spacing.corner_margin r l.i _ _ l.invariant.0 more.0,
+      placed_step c.args.spacing.h c.args.spacing.corner_margin r l.i c.args.at l.placed _ _ _ l.invariant.0 l.invariant.1 more.1,
+      omega (arith, fits, placed_few c.args.spacing.h c.args.spacing.corner_margin r l.i, more.0),
     )
 
 pub returns : goal.returns
 returns c =
-    let e : c.loop-i.i ≡ c.args.n = omega arith in
+    let e : c.loop-i.i ≡ c.args.ring.n = omega arith in
     (rw e at c.loop-i.invariant.0, c.loop-i.invariant.2, rw e at c.loop-i.invariant.1)

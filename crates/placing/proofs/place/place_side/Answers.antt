@@ -13,30 +13,30 @@ use Rattle.placing.proofs.place.place_side.Goals as goal
 pub returns-then-length : goal.returns-then-length
 returns-then-length c =
     let turned_ring : Ring = read_ring c.args.ring in
-    short_side c.args.h c.args.corner_margin turned_ring c.args.i c.args.at _ _ c.args.points.now _ c.requires.n_bound.1 (rw tiny_is at c.if-length.true) c.point-a.ensures c.put_point.ensures
+    short_side c.args.spacing.h c.args.spacing.corner_margin turned_ring c.args.i c.args.at _ _ c.args.points.now _ c.requires.n_bound.1 (rw tiny_is at c.if-length.true) c.at-a.ensures c.put_point.ensures
 
 pub parts_of-k-requires : goal.parts_of-k-requires
 parts_of-k-requires c =
     let turned_ring : Ring = read_ring c.args.ring in
-    let inner-at : ℕ = plans.inner c.args.h c.args.corner_margin turned_ring c.args.i in
-    let inner-found : c.inner_of.result ≡ inner-at = (inner_is c.args.h c.args.corner_margin turned_ring c.args.i _ _ c.requires.n_bound.2 c.inner_of.ensures) in
+    let inner-at : ℕ = plans.inner c.args.spacing.h c.args.spacing.corner_margin turned_ring c.args.i in
+    let inner-found : c.inner_of.result ≡ inner-at = (inner_is c.args.spacing.h c.args.spacing.corner_margin turned_ring c.args.i _ _ c.requires.n_bound.2 c.inner_of.ensures) in
     omega (arith, inner-found, c.requires.i_value, c.requires.i_bound.0)
 
 pub returns-then-k-eq0 : goal.returns-then-k-eq0
 returns-then-k-eq0 c =
     let turned_ring : Ring = read_ring c.args.ring in
-    let inner-at : ℕ = plans.inner c.args.h c.args.corner_margin turned_ring c.args.i in
-    let parts_at : ℕ = plans.parts c.args.h c.args.corner_margin turned_ring c.args.i in
-    let inner-found : c.inner_of.result ≡ inner-at = (inner_is c.args.h c.args.corner_margin turned_ring c.args.i _ _ c.requires.n_bound.2 c.inner_of.ensures) in
+    let inner-at : ℕ = plans.inner c.args.spacing.h c.args.spacing.corner_margin turned_ring c.args.i in
+    let parts_at : ℕ = plans.parts c.args.spacing.h c.args.spacing.corner_margin turned_ring c.args.i in
+    let inner-found : c.inner_of.result ≡ inner-at = (inner_is c.args.spacing.h c.args.spacing.corner_margin turned_ring c.args.i _ _ c.requires.n_bound.2 c.inner_of.ensures) in
     let parts-found : c.parts_of-k.result ≡ parts_at = (omega (arith, c.parts_of-k.ensures, inner-found, c.requires.i_value)) in
-    bare_side c.args.h c.args.corner_margin turned_ring c.args.i c.args.at _ _ _ c.args.points.now _ c.requires.n_bound.1 (rw tiny_is at c.if-length.false) parts-found c.if-k-eq0.true c.point-a.ensures c.put_point.ensures
+    bare_side c.args.spacing.h c.args.spacing.corner_margin turned_ring c.args.i c.args.at _ _ _ c.args.points.now _ c.requires.n_bound.1 (rw tiny_is at c.if-length.false) parts-found c.if-k-eq0.true c.at-a.ensures c.put_point.ensures
 
 pub place_inner-requires : goal.place_inner-requires
 place_inner-requires c =
     let turned_ring : Ring = read_ring c.args.ring in
-    let inner-at : ℕ = plans.inner c.args.h c.args.corner_margin turned_ring c.args.i in
-    let parts_at : ℕ = plans.parts c.args.h c.args.corner_margin turned_ring c.args.i in
-    let inner-found : c.inner_of.result ≡ inner-at = (inner_is c.args.h c.args.corner_margin turned_ring c.args.i _ _ c.requires.n_bound.2 c.inner_of.ensures) in
+    let inner-at : ℕ = plans.inner c.args.spacing.h c.args.spacing.corner_margin turned_ring c.args.i in
+    let parts_at : ℕ = plans.parts c.args.spacing.h c.args.spacing.corner_margin turned_ring c.args.i in
+    let inner-found : c.inner_of.result ≡ inner-at = (inner_is c.args.spacing.h c.args.spacing.corner_margin turned_ring c.args.i _ _ c.requires.n_bound.2 c.inner_of.ensures) in
     let parts-found : c.parts_of-k.result ≡ parts_at = (omega (arith, c.parts_of-k.ensures, inner-found, c.requires.i_value)) in
     let k = parts-found in
     (omega (arith, k, c.requires.i_bound.0), omega (arith, k, c.requires.i_bound.0, c.requires.i_bound.1, c.put_point.auto.pts))
@@ -44,17 +44,17 @@ place_inner-requires c =
 pub overflow_add-result : goal.overflow_add-result
 overflow_add-result c =
     let turned_ring : Ring = read_ring c.args.ring in
-    let inner-at : ℕ = plans.inner c.args.h c.args.corner_margin turned_ring c.args.i in
-    let parts_at : ℕ = plans.parts c.args.h c.args.corner_margin turned_ring c.args.i in
-    let inner-found : c.inner_of.result ≡ inner-at = (inner_is c.args.h c.args.corner_margin turned_ring c.args.i _ _ c.requires.n_bound.2 c.inner_of.ensures) in
+    let inner-at : ℕ = plans.inner c.args.spacing.h c.args.spacing.corner_margin turned_ring c.args.i in
+    let parts_at : ℕ = plans.parts c.args.spacing.h c.args.spacing.corner_margin turned_ring c.args.i in
+    let inner-found : c.inner_of.result ≡ inner-at = (inner_is c.args.spacing.h c.args.spacing.corner_margin turned_ring c.args.i _ _ c.requires.n_bound.2 c.inner_of.ensures) in
     let parts-found : c.parts_of-k.result ≡ parts_at = (omega (arith, c.parts_of-k.ensures, inner-found, c.requires.i_value)) in
     omega (arith, parts-found, c.requires.i_bound.0)
 
 pub returns : goal.returns
 returns c =
     let turned_ring : Ring = read_ring c.args.ring in
-    let inner-at : ℕ = plans.inner c.args.h c.args.corner_margin turned_ring c.args.i in
-    let parts_at : ℕ = plans.parts c.args.h c.args.corner_margin turned_ring c.args.i in
-    let inner-found : c.inner_of.result ≡ inner-at = (inner_is c.args.h c.args.corner_margin turned_ring c.args.i _ _ c.requires.n_bound.2 c.inner_of.ensures) in
+    let inner-at : ℕ = plans.inner c.args.spacing.h c.args.spacing.corner_margin turned_ring c.args.i in
+    let parts_at : ℕ = plans.parts c.args.spacing.h c.args.spacing.corner_margin turned_ring c.args.i in
+    let inner-found : c.inner_of.result ≡ inner-at = (inner_is c.args.spacing.h c.args.spacing.corner_margin turned_ring c.args.i _ _ c.requires.n_bound.2 c.inner_of.ensures) in
     let parts-found : c.parts_of-k.result ≡ parts_at = (omega (arith, c.parts_of-k.ensures, inner-found, c.requires.i_value)) in
-    long_side c.args.h c.args.corner_margin turned_ring c.args.i _ c.args.at _ _ _ _ _ _ c.args.points.now _ _ c.requires.n_bound.1 (rw tiny_is at c.if-length.false) c.next_of.ensures.value c.point-a.ensures c.point-b.ensures c.margin_at-margin.ensures c.requires.n_bound.2 parts-found c.put_point.ensures c.place_inner.ensures
+    long_side c.args.spacing.h c.args.spacing.corner_margin turned_ring c.args.i _ c.args.at _ _ _ _ _ _ c.args.points.now _ _ c.requires.n_bound.1 (rw tiny_is at c.if-length.false) c.next_of.ensures.value c.at-a.ensures c.at-b.ensures c.margin_at-margin.ensures c.requires.n_bound.2 parts-found c.put_point.ensures c.place_inner.ensures

@@ -2,6 +2,6 @@
 use Rattle.planning.proofs.Turning.{ring_found}
 use Rattle.planning.proofs.ring.kept_ring.Goals as goal
 
-pub returns : goal.returns
-returns c =
-    (c.unclosed-size.ensures.1, λ given e. ring_found _ _ given _ c.args.kept _ e c.requires c.unclosed-size.ensures.0 c.turns-back.ensures)
+pub returns-clause-found : goal.returns-clause-found
+returns-clause-found c =
+    λ given e. ring_found _ _ given _ _ e c.unclosed-n.ensures.0 c.turns-back.ensures

@@ -3,4 +3,4 @@ use Rattle.planning.proofs.Measuring.{margin_is}
 use Rattle.planning.proofs.sides.margin_at.Goals as goal
 
 pub returns : goal.returns
-returns c = margin_is _ _ _ _ _ _ c.is_sharp.ensures c.taken.ensures
+returns c = margin_is _ _ _ _ _ _ c.sharp_at.ensures c.taken.ensures

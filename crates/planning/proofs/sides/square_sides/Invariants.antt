@@ -17,4 +17,4 @@ invariant-loop-i l =
     (l.b ≡ r.at (corner l.ring.n l.i))
     × (l.d ≡ toward (r.at (prev l.ring.n (corner l.ring.n l.i))) (r.at (corner l.ring.n l.i)))
     × ((k : ℕ) → k < l.i → get_or l.squares k nan ≡ square (along r k))
-    × ((k : ℕ) → k < l.i → get_or l.margins k nan ≡ plans.margin l.h l.corner_margin r k)
+    × ((k : ℕ) → k < l.i → get_or l.margins k nan ≡ plans.margin l.spacing.h l.spacing.corner_margin r k)

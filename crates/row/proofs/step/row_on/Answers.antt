@@ -14,7 +14,7 @@ pub row_in-requires-else-lent-li-le64-clause-room : goal.row_in-requires-else-le
 row_in-requires-else-lent-li-le64-clause-room c =
     let given : Held = held_in c.args.lent.now c.args.counts in
     let p = c.requires in
-    let there : c.args.li < length (sizes_of given) = rw (sizes_long given (sound_counted given p.sound)) p.li_lt_fronts.0 in
+    let there : c.args.li < length (sizes_of given) = rw (sizes_long given (sound_counted given p.sound)) p.li_lt_fronts in
     let w = total_within (sizes_of given) c.args.li there in
-    let n = get_or-take c.args.counts.fronts c.args.lent.now.front_lengths.now c.args.li 0 p.li_lt_fronts.0 in
+    let n = get_or-take c.args.counts.fronts c.args.lent.now.front_lengths.now c.args.li 0 p.li_lt_fronts in
     (omega arith, omega arith)

@@ -17,5 +17,7 @@ use Rattle.row_checks.proofs.checks.all_clear_of.Goals as goal
 pub returns : goal.returns
 returns c =
     let a = c.args in
-    let far : ℕ → Bool = λ i. not (lt (ring_distance (inf false) (point_at a.row.now i) (node_ring a.points.now a.nodes.now) (length a.nodes.now)) a.least) in
-    all_from_yields_List far _ _ _ c.all.ensures.ran (YieldsList-from_range 0 a.n a.n refl (omega arith)) (λ x b q k. search (rules, tests)) ∙ all_below far a.n
+    let row = a.row.now in
+    let front = a.front.now in
+    let far : ℕ → Bool = λ i. not (lt (ring_distance (inf false) (point_at row.pts.now i) (node_ring front.pts.now front.nodes.now) (length front.nodes.now)) a.least) in
+    all_from_yields_List far _ _ _ c.all.ensures.ran (YieldsList-from_range 0 row.n row.n refl (omega arith)) (λ x b q k. search (rules, tests)) ∙ all_below far row.n

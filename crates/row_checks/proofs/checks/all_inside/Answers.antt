@@ -14,6 +14,7 @@ use Rattle.row_checks.proofs.checks.all_inside.Goals as goal
 
 pub returns : goal.returns
 returns c =
-    let a = c.args in
-    let inside : ℕ → Bool = λ i. contains (rings a.coords.now a.loops.now) (point_at a.row.now i) in
-    all_from_yields_List inside _ _ _ c.all.ensures.ran (YieldsList-from_range 0 a.n a.n refl (omega arith)) (λ x b q k. search (rules, tests)) ∙ all_below inside a.n
+    let row = c.args.row.now in
+    let outline = c.args.outline.now in
+    let inside : ℕ → Bool = λ i. contains (rings outline.coords.now outline.loop_lengths.now) (point_at row.pts.now i) in
+    all_from_yields_List inside _ _ _ c.all.ensures.ran (YieldsList-from_range 0 row.n row.n refl (omega arith)) (λ x b q k. search (rules, tests)) ∙ all_below inside row.n

@@ -15,6 +15,7 @@ use Rattle.row_checks.proofs.checks.all_off_boundary.Goals as goal
 
 pub returns : goal.returns
 returns c =
-    let a = c.args in
-    let off : ℕ → Bool = λ i. not (lt (distance_to_boundary (rings a.coords.now a.loops.now) (point_at a.row.now i)) a.least) in
-    all_from_yields_List off _ _ _ c.all.ensures.ran (YieldsList-from_range 0 a.n a.n refl (omega arith)) (λ x b q k. search (rules, tests)) ∙ all_below off a.n
+    let row = c.args.row.now in
+    let outline = c.args.outline.now in
+    let off : ℕ → Bool = λ i. not (lt (distance_to_boundary (rings outline.coords.now outline.loop_lengths.now) (point_at row.pts.now i)) c.args.least) in
+    all_from_yields_List off _ _ _ c.all.ensures.ran (YieldsList-from_range 0 row.n row.n refl (omega arith)) (λ x b q k. search (rules, tests)) ∙ all_below off row.n

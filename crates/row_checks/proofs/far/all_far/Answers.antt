@@ -4,7 +4,6 @@ use mathlib.Core.Bool.{Bool}
 use Prim.Native.Nat.{ℕ}
 use native.Mathlib.Omega.{arith}
 use borrow.Author.Tests.{tests}
-use lib.ListN.{length}
 use Rattle.std.proofs.Common.{rules}
 use Rattle.std.proofs.lemmas.Iterator.{YieldsList-from_range}
 use Rattle.std.proofs.lemmas.Iterator.Search.{all_from_yields_List}
@@ -18,7 +17,7 @@ use Rattle.row_checks.proofs.far.all_far.Goals as goal
 pub returns : goal.returns
 returns c =
     let s = short_is in
-    let a = c.args in
-    let r : Ring = node_ring a.points.now a.nodes.now in
-    let far : ℕ → Bool = λ i. far_side short_in_paving a.bound a.row.now a.n (r.at i) (r.at (next r.size i)) in
-    all_from_yields_List far _ _ _ c.all.ensures.ran (YieldsList-from_range 0 (length a.nodes.now) (length a.nodes.now) refl (omega arith)) (λ x b q k. search (rules, tests)) ∙ all_below far (length a.nodes.now)
+    let row = c.args.row.now in
+    let r : Ring = node_ring c.args.front.now.pts.now c.args.front.now.nodes.now in
+    let far : ℕ → Bool = λ i. far_side short_in_paving c.args.bound row.pts.now row.n (r.at i) (r.at (next r.size i)) in
+    all_from_yields_List far _ _ _ c.all.ensures.ran (YieldsList-from_range 0 c.size-n.result c.size-n.result refl (omega arith)) (λ x b q k. search (rules, tests)) ∙ rw c.size-n.ensures (all_below far r.size)

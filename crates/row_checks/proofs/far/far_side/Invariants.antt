@@ -7,4 +7,4 @@ use Rattle.row_checks.proofs.FarClear.{foot_square}
 use Rattle.row_checks.proofs.far.far_side.Given as goal
 
 abbrev pub invariant-loop-i : goal.invariant-loop-i
-invariant-loop-i l = l.far ≡ every (λ k. le l.bound (foot_square l.a (record { x = l.abx; y = l.aby }) l.length2 (point_at l.row k))) l.i
+invariant-loop-i l = l.far ≡ every (λ k. le l.bound (foot_square l.a (record { x = l.abx; y = l.aby }) l.length2 (point_at l.row.pts.now k))) l.i

@@ -10,4 +10,6 @@ use Rattle.rules.specs.Checks.{every, all_clear_of}
 use Rattle.row_checks.proofs.fronts.clear_of_fronts.Given as goal
 
 abbrev pub invariant-loop-other : goal.invariant-loop-other
-invariant-loop-other l = (l.start ≡ sum_of (take l.other l.lengths)) × (every (λ k. eqb k l.li || all_clear_of l.points (get_or (cut l.lengths l.front_nodes) k []) l.least l.row l.n) l.other ≡ true)
+invariant-loop-other l =
+    (l.start ≡ sum_of (take l.other l.fronts.lengths.now))
+    × (every (λ k. eqb k l.li || all_clear_of l.fronts.points.now (get_or (cut l.fronts.lengths.now l.fronts.nodes.now) k []) l.least l.row.pts.now l.row.n) l.other ≡ true)

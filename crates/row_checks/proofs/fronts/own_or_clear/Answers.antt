@@ -12,6 +12,6 @@ returns-then-all_far c =
     elim c.if-own.branch [
       | then-own w ↦ rw (w.value-is, w.if-own.true)
       | else-own+then-is_bound w ↦ rw (c.if-all_far.true, w.if-own.false)
-          (far_clear _ _ (mul-fits binary64 _ _) (sym w.is_bound.ensures ∙ w.if-is_bound.true) a.points.now a.nodes.now a.row.now a.n (sym w.all_far.ensures ∙ sym w.value-is ∙ c.if-all_far.true))
+          (far_clear _ _ (mul-fits binary64 _ _) (sym w.is_bound.ensures ∙ w.if-is_bound.true) a.front.now.pts.now a.front.now.nodes.now a.row.now.pts.now a.row.now.n (sym w.all_far.ensures ∙ sym w.value-is ∙ c.if-all_far.true))
       | else-own+else-is_bound w ↦ absurd cc
     ]

@@ -11,5 +11,5 @@ use Rattle.row_checks.proofs.quads.all_quads_stand.Given as goal
 
 abbrev pub invariant-loop-i : goal.invariant-loop-i
 invariant-loop-i l =
-    (every (long_enough l.least l.row l.n) l.i ≡ true) × (every (corners_good l.limit l.points l.old l.row l.n) l.i ≡ true)
-    × (l.rung ≡ side_length l.a l.d) × (l.i < l.n → (l.a ≡ point_at l.points (get_or l.old l.i 0)) × (l.d ≡ point_at l.row l.i))
+    (every (long_enough l.least l.row.pts.now l.n) l.i ≡ true) × (every (corners_good l.limit l.old.pts.now l.old.nodes.now l.row.pts.now l.n) l.i ≡ true)
+    × (l.rung ≡ side_length l.a l.d) × (l.i < l.n → (l.a ≡ point_at l.old.pts.now (get_or l.old.nodes.now l.i 0)) × (l.d ≡ point_at l.row.pts.now l.i))

@@ -1,10 +1,17 @@
 -- `row_checks::trial::rest_stands` meets its contract.
-use Rattle.state.proofs.Cutting.{part_of_all}
+use Rattle.std.proofs.Common.{rules}
+use Rattle.input.specs.Job.{accepted_of}
+use Rattle.row_checks.proofs.Standing.{in_order}
 use Rattle.row_checks.proofs.trial.rest_stands.Goals as goal
 
-pub all_quads_stand-requires-clause-by_index : goal.all_quads_stand-requires-clause-by_index
-all_quads_stand-requires-clause-by_index c =
-    let a = c.args in
-    let p = c.requires in
-    let f = p.li_in_bounds in
-    part_of_all a.lengths.now a.front_nodes.now a.li f.0 p.loop_lengths_in_bounds.1 _ _ _ _ f.1 f.2 c.nodes_of-old.ensures p.by_index
+pub returns-then-clear_of_fronts : goal.returns-then-clear_of_fronts
+returns-then-clear_of_fronts c =
+    let p = c.requires.front in
+    let checks = in_order (accepted_of c.args.job.now) c.args.fronts.now c.args.li c.args.row.now.pts.now c.requires.even p.0 p.1 p.2 c.requires.row.1 in
+    search rules
+
+pub returns-else-clear_of_fronts : goal.returns-else-clear_of_fronts
+returns-else-clear_of_fronts c =
+    let p = c.requires.front in
+    let checks = in_order (accepted_of c.args.job.now) c.args.fronts.now c.args.li c.args.row.now.pts.now c.requires.even p.0 p.1 p.2 c.requires.row.1 in
+    search rules

@@ -1,30 +1,31 @@
-use mathlib.Core.Path.{◌≡◌, refl, ap, ◌∙◌}
-use Prim.Native.Nat.{◌+◌, ◌*◌, ◌≤◌, ◌-◌}
+use mathlib.Core.Path.{refl, ap, ◌∙◌}
+use Prim.Native.Nat.{◌+◌, ◌≤◌}
 use native.Mathlib.Omega.{arith}
-use lib.ListN.{length, set, drop, length-set, length-drop}
+use lib.ListN.{set, length-set}
 use Rattle.std.proofs.lemmas.Result.{err_from_is_err_and}
-use Rattle.geometry.specs.Domain.{sum_of}
 use Rattle.state.specs.Limits.{front_node_limit}
-use Rattle.sampling.proofs.Sampling.{made_nodes, rest_whole, at_first, room_left, loop_refused, one_more, at_last}
+use Rattle.sampling.proofs.Sampling.{made_nodes, at_first, room_first, loop_refused, one_more, at_last}
 use Rattle.sampling.proofs.all_loops.loops_in_turn.Goals as goal
 
 pub loop-k-init : goal.loop-k-init
 loop-k-init c =
-    (at_first c.args.job.now.coords.now c.args.job.now.loop_lengths.now c.args.job.now.h c.args.job.now.options.corner_margin c.args.points.now c.args.front_nodes.now c.args.front_lengths.now c.requires.loop_lengths_value.0, refl, refl, refl, refl, refl, refl)
+    (at_first c.args.job.now.outline.coords.now c.args.job.now.outline.loop_lengths.now c.args.job.now.h c.args.job.now.options.corner_margin c.args.points.now c.args.front_nodes.now c.args.front_lengths.now c.requires.job.0, refl, refl, refl, refl, refl, refl)
 
-pub slice_bounds-rest-count : goal.slice_bounds-rest-count
-slice_bounds-rest-count c =
-    let room : (c.loop-k.first + c.wide-n.result * 2 + sum_of (drop (c.loop-k.k + 1) c.args.job.now.loop_lengths.now) * 2 ≡ length c.args.job.now.coords.now) = room_left c.loop-k.invariant.0 c.wide-n.ensures c.loop-k-test.true in
-    omega (arith, room)
+pub invariant_of-given : goal.invariant_of-given
+invariant_of-given c = record { fits = room_first c.loop-k.invariant.0 c.from.ensures c.loop-k-test.true }
 
 pub sample_loop-requires : goal.sample_loop-requires
 sample_loop-requires c =
-    let room : (c.loop-k.first + c.wide-n.result * 2 + sum_of (drop (c.loop-k.k + 1) c.args.job.now.loop_lengths.now) * 2 ≡ length c.args.job.now.coords.now) = room_left c.loop-k.invariant.0 c.wide-n.ensures c.loop-k-test.true in
     let l = c.loop-k in
-    let e = room in
-    let left : c.wide-n.result * 2 ≤ length c.args.job.now.coords.now - l.first = omega (arith, e) in record {
-      n_bound = (rw (rest_whole c.args.job.now.coords.now l.first, length-drop l.first c.args.job.now.coords.now) left, omega (arith, e, c.requires.loop_lengths_value.1), omega (arith, e, c.requires.coords_in_bounds.0, l.invariant.4), omega (arith, e, c.requires.coords_in_bounds.1, l.invariant.5), omega (arith, e, c.requires.coords_in_bounds.2, l.invariant.6));
-      at_le_before = (l.invariant.0.fewer, l.invariant.0.within, omega (arith, c.requires.front_node_limit_in_bounds.0, l.invariant.1));
+    let fits = room_first l.invariant.0 c.from.ensures c.loop-k-test.true in
+    let shorter = l.invariant.0.shorter in record {
+      n_bound = (
+        omega (arith, fits, shorter, c.requires.job.1),
+        omega (arith, fits, shorter, c.requires.work.0, l.invariant.4),
+        omega (arith, fits, shorter, c.requires.work.1, l.invariant.5),
+        omega (arith, fits, shorter, c.requires.work.2, l.invariant.6),
+      );
+      at_le_before = (l.invariant.0.fewer, l.invariant.0.within, omega (arith, c.requires.room.0, l.invariant.1));
     }
 
 pub shape_of-points-in_err-made : goal.shape_of-points-in_err-made
@@ -55,14 +56,14 @@ pub returns-in_err-made : goal.returns-in_err-made
 returns-in_err-made c =
     let l = c.loop-k in
     let p = err_from_is_err_and c.from_residual.result c.from_residual.ensures.1 in
-    rw (p.1, p.2) (loop_refused l.invariant.0 c.wide-n.ensures c.loop-k-test.true _ (rw (c.in_err-made.was, rest_whole c.args.job.now.coords.now l.first) at c.sample_loop.ensures))
+    rw (p.1, p.2) (loop_refused l.invariant.0 c.from.ensures c.loop-k-test.true _ (rw c.in_err-made.was at c.sample_loop.ensures))
 
 pub put_numbers-requires : goal.put_numbers-requires
 put_numbers-requires c =
     let few-nodes : (c.loop-k.before + c.in_ok-made.made.planned ≤ front_node_limit) × (c.loop-k.nodes + c.in_ok-made.made.placed ≤ front_node_limit) = (let w = (made_nodes c.in_ok-made.was c.sample_loop.ensures).1 in
     (w.within, omega (arith, w.within, w.fewer, c.loop-k.invariant.0.fewer))) in
     let few = few-nodes.1 in
-    (omega (arith, few, c.loop-k.invariant.2, c.requires.front_node_limit_in_bounds.1), omega (arith, few))
+    (omega (arith, few, c.loop-k.invariant.2, c.requires.room.1), omega (arith, few))
 
 pub narrow-requires : goal.narrow-requires
 narrow-requires c =
@@ -72,17 +73,7 @@ narrow-requires c =
 
 pub bounds-front_lengths-k : goal.bounds-front_lengths-k
 bounds-front_lengths-k c =
-    omega (arith, c.loop-k-test.true, c.loop-k.invariant.3, c.requires.loop_lengths_value.2)
-
-pub overflow_mul-first : goal.overflow_mul-first
-overflow_mul-first c =
-    let room : (c.loop-k.first + c.wide-n.result * 2 + sum_of (drop (c.loop-k.k + 1) c.args.job.now.loop_lengths.now) * 2 ≡ length c.args.job.now.coords.now) = room_left c.loop-k.invariant.0 c.wide-n.ensures c.loop-k-test.true in
-    omega (arith, room, c.requires.loop_lengths_value.1)
-
-pub overflow_add-first : goal.overflow_add-first
-overflow_add-first c =
-    let room : (c.loop-k.first + c.wide-n.result * 2 + sum_of (drop (c.loop-k.k + 1) c.args.job.now.loop_lengths.now) * 2 ≡ length c.args.job.now.coords.now) = room_left c.loop-k.invariant.0 c.wide-n.ensures c.loop-k-test.true in
-    omega (arith, room, c.requires.loop_lengths_value.1)
+    omega (arith, c.loop-k-test.true, c.loop-k.invariant.3, c.requires.job.2, c.requires.room.2)
 
 pub overflow_add-before : goal.overflow_add-before
 overflow_add-before c =
@@ -101,9 +92,8 @@ loop-k-preserved c =
     let sample-loop = c.sample_loop in
     let put-numbers = c.put_numbers in
     let l = c.loop-k in
-    let e = rest_whole c.args.job.now.coords.now l.first in
     let w = made_nodes c.in_ok-made.was sample-loop.ensures in (
-      one_more l.invariant.0 c.wide-n.ensures c.loop-k-test.true (rw e at w.0) (rw e at w.1) put-numbers.ensures (ap (set l.front_lengths l.k) c.narrow.ensures),
+      one_more l.invariant.0 c.from.ensures c.loop-k-test.true w.0 w.1 put-numbers.ensures (ap (set l.front_lengths l.k) c.narrow.ensures) c.rest-ahead.ensures,
       sample-loop.auto.points ∙ l.invariant.1,
       put-numbers.auto.nodes ∙ l.invariant.2,
       simp length-set l.invariant.3,

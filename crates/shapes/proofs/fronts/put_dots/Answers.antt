@@ -8,20 +8,20 @@ use Rattle.shapes.proofs.Turns.{dots_begin, dots_next, dots_end}
 use Rattle.shapes.proofs.fronts.put_dots.Goals as goal
 
 pub loop-i-init : goal.loop-i-init
-loop-i-init c = (same_rest (dots_begin c.args.points.now c.args.n) (begin _ _ _), refl)
+loop-i-init c = (same_rest (dots_begin c.args.nodes.now.pts.now c.args.nodes.now.n) (begin _ _ _), refl)
 
 pub put_dot-requires : goal.put_dot-requires
 put_dot-requires c =
-    room (dot_text c.point_at.result) (dots_text c.args.points.now (numbered (c.loop-i.i + 1) (c.args.n - (c.loop-i.i + 1))))
-    (same_rest (dots_next c.args.points.now c.args.n c.loop-i.i c.point_at.result (omega arith) c.point_at.ensures) c.loop-i.invariant.0) c.requires.room
+    room (dot_text c.at.result) (dots_text c.args.nodes.now.pts.now (numbered (c.loop-i.i + 1) (c.args.nodes.now.n - (c.loop-i.i + 1))))
+    (same_rest (dots_next c.args.nodes.now.pts.now c.args.nodes.now.n c.loop-i.i c.at.result (omega arith) c.at.ensures) c.loop-i.invariant.0) c.requires
 
 pub loop-i-preserved : goal.loop-i-preserved
 loop-i-preserved c =
-    (more (same_rest (dots_next c.args.points.now c.args.n c.loop-i.i c.point_at.result (omega arith) c.point_at.ensures) c.loop-i.invariant.0) c.put_dot.ensures.put, c.put_dot.ensures.same ∙ c.loop-i.invariant.1)
+    (more (same_rest (dots_next c.args.nodes.now.pts.now c.args.nodes.now.n c.loop-i.i c.at.result (omega arith) c.at.ensures) c.loop-i.invariant.0) c.put_dot.ensures.put, c.put_dot.ensures.same ∙ c.loop-i.invariant.1)
 
 pub returns-clause-put : goal.returns-clause-put
 returns-clause-put c =
-    ended (same_rest (dots_end c.args.points.now c.args.n c.loop-i.i (omega arith)) c.loop-i.invariant.0)
+    ended (same_rest (dots_end c.args.nodes.now.pts.now c.args.nodes.now.n c.loop-i.i (omega arith)) c.loop-i.invariant.0)
 
 pub returns-clause-same : goal.returns-clause-same
 returns-clause-same c = c.loop-i.invariant.1

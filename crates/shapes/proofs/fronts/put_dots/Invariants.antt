@@ -7,4 +7,4 @@ use Rattle.text.specs.Writing.{Same}
 use Rattle.shapes.proofs.fronts.put_dots.Given as goal
 
 abbrev pub invariant-loop-i : goal.invariant-loop-i
-invariant-loop-i l = Midst l.initial.w.out.now l.initial.w.at (dots_text l.points (numbered 0 l.n)) l.w.out.now l.w.at (dots_text l.points (numbered l.i (l.n - l.i))) × Same l.initial.w l.w
+invariant-loop-i l = Midst l.initial.w.out.now l.initial.w.at (dots_text l.nodes.pts.now (numbered 0 l.nodes.n)) l.w.out.now l.w.at (dots_text l.nodes.pts.now (numbered l.i (l.nodes.n - l.i))) × Same l.initial.w l.w

@@ -25,13 +25,13 @@ same_points e = ap (λ (f : record { 0 : Bor (List Float) }). f.0.now) e
 
 pub put_ring-requires-whole : goal.put_ring-requires-whole
 put_ring-requires-whole c = λ k.
-    let left = sum-next c.args.loops.now c.loop-n.n-index c.from-n.result (omega arith) c.from-n.ensures in
+    let left = sum-next c.args.outline.now.loop_lengths.now c.loop-n.n-index c.from-n.result (omega arith) c.from-n.ensures in
     let points = same_points c.map.ensures.closure in (
       search lives depth 12,
       (
-        rw (line_at c.args.coords.now (numbered c.loop-n.first c.from-n.result) _ _ points (run_at c.loop-n.first c.from-n.result c.map.ensures.source))
-            (room (ring_text c.args.coords.now (numbered c.loop-n.first c.from-n.result)) (loops_text c.args.coords.now (c.loop-n.first + c.from-n.result) (drop (c.loop-n.n-index + 1) c.args.loops.now))
-            (same_rest (loops-next c.args.coords.now c.args.loops.now c.loop-n.first c.loop-n.n-index c.from-n.result (omega arith) c.from-n.ensures) c.loop-n.invariant.1) c.requires.room),
+        rw (line_at c.args.outline.now.coords.now (numbered c.loop-n.first c.from-n.result) _ _ points (run_at c.loop-n.first c.from-n.result c.map.ensures.source))
+            (room (ring_text c.args.outline.now.coords.now (numbered c.loop-n.first c.from-n.result)) (loops_text c.args.outline.now.coords.now (c.loop-n.first + c.from-n.result) (drop (c.loop-n.n-index + 1) c.args.outline.now.loop_lengths.now))
+            (same_rest (loops-next c.args.outline.now.coords.now c.args.outline.now.loop_lengths.now c.loop-n.first c.loop-n.n-index c.from-n.result (omega arith) c.from-n.ensures) c.loop-n.invariant.1) c.requires),
         (
           (tt, serves_from_Range (λ x q h. search (rules, tests)) (λ x low high _ _ _ _ _ _ _ _. inside c.loop-n.first c.from-n.result points c.map.ensures.source (omega arith) high)),
           (tt, YieldsList-from_map _ (point_at (map_callee c.map.result).0.now) (YieldsList-from_range (map_source c.map.result).start (map_source c.map.result).end _ refl refl) refl (λ x r q h. search (rules, tests))),
@@ -41,12 +41,12 @@ put_ring-requires-whole c = λ k.
 
 pub loop-n-preserved : goal.loop-n-preserved
 loop-n-preserved c =
-    let left = sum-next c.args.loops.now c.loop-n.n-index c.from-n.result (omega arith) c.from-n.ensures in
-    (omega arith, more (same_rest (loops-next c.args.coords.now c.args.loops.now c.loop-n.first c.loop-n.n-index c.from-n.result (omega arith) c.from-n.ensures) c.loop-n.invariant.1) (put_same (line_at c.args.coords.now (numbered c.loop-n.first c.from-n.result) _ _ (same_points c.map.ensures.closure) (run_at c.loop-n.first c.from-n.result c.map.ensures.source)) c.put_ring.ensures.put), c.put_ring.ensures.same ∙ c.loop-n.invariant.2)
+    let left = sum-next c.args.outline.now.loop_lengths.now c.loop-n.n-index c.from-n.result (omega arith) c.from-n.ensures in
+    (omega arith, more (same_rest (loops-next c.args.outline.now.coords.now c.args.outline.now.loop_lengths.now c.loop-n.first c.loop-n.n-index c.from-n.result (omega arith) c.from-n.ensures) c.loop-n.invariant.1) (put_same (line_at c.args.outline.now.coords.now (numbered c.loop-n.first c.from-n.result) _ _ (same_points c.map.ensures.closure) (run_at c.loop-n.first c.from-n.result c.map.ensures.source)) c.put_ring.ensures.put), c.put_ring.ensures.same ∙ c.loop-n.invariant.2)
 
 pub returns-clause-put : goal.returns-clause-put
 returns-clause-put c =
-    ended (same_rest (loops_end c.args.coords.now c.args.loops.now c.loop-n.first c.loop-n.n-index (omega arith)) c.loop-n.invariant.1)
+    ended (same_rest (loops_end c.args.outline.now.coords.now c.args.outline.now.loop_lengths.now c.loop-n.first c.loop-n.n-index (omega arith)) c.loop-n.invariant.1)
 
 pub returns-clause-same : goal.returns-clause-same
 returns-clause-same c = c.loop-n.invariant.2

@@ -13,4 +13,4 @@ abbrev pub ghost-put_ring : goal.ghost-put_ring
 ghost-put_ring a = map (point_at (map_callee a.ring).0.now) (range_with_len (map_source a.ring).start ((map_source a.ring).end - (map_source a.ring).start))
 
 abbrev pub invariant-loop-n : goal.invariant-loop-n
-invariant-loop-n l = ((l.first + sum_of (drop l.n-index l.loops)) * 2 ≤ length l.coords) × Midst l.initial.w.out.now l.initial.w.at (loops_text l.coords 0 l.loops) l.w.out.now l.w.at (loops_text l.coords l.first (drop l.n-index l.loops)) × Same l.initial.w l.w
+invariant-loop-n l = ((l.first + sum_of (drop l.n-index l.outline.loop_lengths.now)) * 2 ≤ length l.outline.coords.now) × Midst l.initial.w.out.now l.initial.w.at (loops_text l.outline.coords.now 0 l.outline.loop_lengths.now) l.w.out.now l.w.at (loops_text l.outline.coords.now l.first (drop l.n-index l.outline.loop_lengths.now)) × Same l.initial.w l.w

@@ -15,19 +15,16 @@ begun out at class points n = start out at (open_text class ∷ dots_text points
 
 pub put_open-requires : goal.put_open-requires
 put_open-requires c =
-    fits (begun c.args.w.now.out.now c.args.w.now.at c.args.class c.args.points.now c.args.n) c.requires.room
+    fits (begun c.args.w.now.out.now c.args.w.now.at c.args.class c.args.nodes.now.pts.now c.args.nodes.now.n) c.requires
 
 pub put_dots-requires : goal.put_dots-requires
 put_dots-requires c =
-    record {
-      room = fits (step (begun c.args.w.now.out.now c.args.w.now.at c.args.class c.args.points.now c.args.n) c.put_open.ensures.put) c.requires.room;
-      n_in_bounds = c.requires.n_in_bounds;
-    }
+    fits (step (begun c.args.w.now.out.now c.args.w.now.at c.args.class c.args.nodes.now.pts.now c.args.nodes.now.n) c.put_open.ensures.put) c.requires
 
 pub bytes-requires : goal.bytes-requires
 bytes-requires c =
-    fits (step (step (begun c.args.w.now.out.now c.args.w.now.at c.args.class c.args.points.now c.args.n) c.put_open.ensures.put) c.put_dots.ensures.put) c.requires.room
+    fits (step (step (begun c.args.w.now.out.now c.args.w.now.at c.args.class c.args.nodes.now.pts.now c.args.nodes.now.n) c.put_open.ensures.put) c.put_dots.ensures.put) c.requires
 
 pub returns-clause-put : goal.returns-clause-put
 returns-clause-put c =
-    done (step (step (step (begun c.args.w.now.out.now c.args.w.now.at c.args.class c.args.points.now c.args.n) c.put_open.ensures.put) c.put_dots.ensures.put) c.bytes.ensures.put)
+    done (step (step (step (begun c.args.w.now.out.now c.args.w.now.at c.args.class c.args.nodes.now.pts.now c.args.nodes.now.n) c.put_open.ensures.put) c.put_dots.ensures.put) c.bytes.ensures.put)

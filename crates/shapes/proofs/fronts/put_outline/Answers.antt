@@ -14,19 +14,16 @@ begun out at coords loops = start out at (open_text 111 ∷ loops_text coords 0 
 
 pub put_open-requires : goal.put_open-requires
 put_open-requires c =
-    fits (begun c.args.w.now.out.now c.args.w.now.at c.args.coords.now c.args.loops.now) c.requires.room
+    fits (begun c.args.w.now.out.now c.args.w.now.at c.args.outline.now.coords.now c.args.outline.now.loop_lengths.now) c.requires
 
 pub put_loops-requires : goal.put_loops-requires
 put_loops-requires c =
-    record {
-      room = fits (step (begun c.args.w.now.out.now c.args.w.now.at c.args.coords.now c.args.loops.now) c.put_open.ensures.put) c.requires.room;
-      loops_in_bounds = c.requires.loops_in_bounds;
-    }
+    fits (step (begun c.args.w.now.out.now c.args.w.now.at c.args.outline.now.coords.now c.args.outline.now.loop_lengths.now) c.put_open.ensures.put) c.requires
 
 pub bytes-requires : goal.bytes-requires
 bytes-requires c =
-    fits (step (step (begun c.args.w.now.out.now c.args.w.now.at c.args.coords.now c.args.loops.now) c.put_open.ensures.put) c.put_loops.ensures.put) c.requires.room
+    fits (step (step (begun c.args.w.now.out.now c.args.w.now.at c.args.outline.now.coords.now c.args.outline.now.loop_lengths.now) c.put_open.ensures.put) c.put_loops.ensures.put) c.requires
 
 pub returns-clause-put : goal.returns-clause-put
 returns-clause-put c =
-    done (step (step (step (begun c.args.w.now.out.now c.args.w.now.at c.args.coords.now c.args.loops.now) c.put_open.ensures.put) c.put_loops.ensures.put) c.bytes.ensures.put)
+    done (step (step (step (begun c.args.w.now.out.now c.args.w.now.at c.args.outline.now.coords.now c.args.outline.now.loop_lengths.now) c.put_open.ensures.put) c.put_loops.ensures.put) c.bytes.ensures.put)

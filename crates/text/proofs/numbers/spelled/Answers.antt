@@ -1,10 +1,9 @@
-use mathlib.Core.Path.{◌≡◌, sym, ◌∙◌}
+use mathlib.Core.Path.{sym, ◌∙◌}
 use mathlib.Core.Logic.{inl, inr}
-use Prim.Native.Nat.{◌+◌, ◌<◌, ◌≤◌, suc}
 use native.Mathlib.Nat.{pow-suc}
 use native.Mathlib.Numerals.{add-one}
 use native.Mathlib.Omega.{arith}
-use Rattle.text.proofs.Spelling.{Digit, place_spelled, place_other, all_spelled, small_power}
+use Rattle.text.proofs.Spelling.{place_spelled, place_other, all_spelled, small_power}
 use Rattle.text.proofs.numbers.spelled.Goals as goal
 
 pub returns-then-not-is_ascii_digit : goal.returns-then-not-is_ascii_digit

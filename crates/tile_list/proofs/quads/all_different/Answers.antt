@@ -1,26 +1,19 @@
-use mathlib.Core.Path.{sym, ◌∙◌, ap}
-use Rattle.answer_text.proofs.LineLaws.{quads_begin}
-use Rattle.tile_text.specs.TileList.{every_quad, four_different}
-use Rattle.tile_list.proofs.Turns.{fails, goes_on, all_turns}
+-- `tile_list::quads::all_different` meets its contract.
+use mathlib.Core.Path.{◌∙◌}
+use Prim.Native.Nat.{◌/◌}
+use native.Mathlib.Omega.{arith}
+use borrow.Author.Rules.{rules}
+use lib.ListN.{length}
+use Rattle.std.proofs.lemmas.Iterator.{YieldsList-from_slice}
+use Rattle.std.proofs.lemmas.Iterator.Search.{all_from_yields_List}
+use Rattle.std.specs.Simd.{first_chunks}
+use Rattle.tile_text.specs.Reading.{quad_of}
+use Rattle.tile_text.specs.TileList.{four_different}
+use Rattle.tile_list.proofs.Turns.{all_fours}
 use Rattle.tile_list.proofs.quads.all_different.Goals as goal
-
-pub loop-nodes-init : goal.loop-nodes-init
-loop-nodes-init c =
-    let all = quads_begin c.args.n c.args.quads.now c.requires ∙ rw (sym c.chunks_exact-nodes-items.ensures.rest) in
-    rw c.into_iter-nodes-iterator.ensures.into_iter_gives (c.chunks_exact-nodes-items.ensures.size, ap (every_quad four_different) all)
-
-pub returns-then-not-different : goal.returns-then-not-different
-returns-then-not-different c =
-    let step = c.in-Some.ensures.steps.1 in
-    sym (c.loop-nodes.invariant.1 ∙ fails four_different _ c.in-Some.nodes.now _ step.0 (step.1 ∙ c.loop-nodes.invariant.0) c.different.ensures c.if-not-different.true)
-
-pub loop-nodes-preserved : goal.loop-nodes-preserved
-loop-nodes-preserved c =
-    let step = c.in-Some.ensures.steps in
-    (step.0 ∙ c.loop-nodes.invariant.0, c.loop-nodes.invariant.1 ∙ goes_on four_different _ c.in-Some.nodes.now _ step.1.0 (step.1.1 ∙ c.loop-nodes.invariant.0) c.different.ensures c.if-not-different.false)
 
 pub returns : goal.returns
 returns c =
-    let few = c.in-None.ensures.steps.1.0 in
-    let four = c.loop-nodes.invariant.0 in
-    sym (c.loop-nodes.invariant.1 ∙ all_turns four_different _ (rw four at few))
+    let n = length c.args.quads.now / 4 in
+    all_from_yields_List (λ q. four_different (quad_of q)) _ _ _ c.all.ensures.ran (YieldsList-from_slice (first_chunks 4 n c.args.quads.now) (search rules)) (λ x b q k. search rules)
+    ∙ all_fours four_different n c.args.quads.now (omega arith)

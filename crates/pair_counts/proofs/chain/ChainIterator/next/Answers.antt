@@ -12,10 +12,10 @@ returns-in_err-checked_sub-clause-steps c =
 pub returns-clause-steps : goal.returns-clause-steps
 returns-clause-steps c =
     let s = c.args.self.now in
-    turn-chain s.highs.now s.behind.now s.place s.walk _ (c.wide-i.ensures ∙ c.in_ok-checked_sub.ensures.1) c.in_ok-checked_sub.ensures.0
+    turn-chain s.highs.now s.behind.now s.place s.walk _ (c.from-i.ensures ∙ c.in_ok-checked_sub.ensures.1) c.in_ok-checked_sub.ensures.0
 
 pub returns-clause-goes : goal.returns-clause-goes
 returns-clause-goes c =
     let s = c.args.self.now in
-    let split = turn-chain s.highs.now s.behind.now s.place s.walk _ (c.wide-i.ensures ∙ c.in_ok-checked_sub.ensures.1) c.in_ok-checked_sub.ensures.0 in
+    let split = turn-chain s.highs.now s.behind.now s.place s.walk _ (c.from-i.ensures ∙ c.in_ok-checked_sub.ensures.1) c.in_ok-checked_sub.ensures.0 in
     record { on = λ f. (tt, tt, shorter split); keeps = tt; rests = λ f. tt }
