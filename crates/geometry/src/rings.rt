@@ -1,5 +1,5 @@
 // Closed rings and their measures: the first `n` points of a list, and the points that a front's node numbers name.
-ghost use Rattle.std.specs.Prelude.{◌≡◌, ℕ, ◌*◌, ◌+◌, ◌<◌, ◌≤◌, ◌/◌, drop, false, get_or, length, take};
+ghost use Rattle.std.specs.Prelude.{◌≡◌, ℕ, ◌*◌, ◌+◌, ◌<◌, ◌≤◌, ◌/◌, drop, false, get_or, length};
 ghost use Rattle.std.specs.Float.{inf};
 ghost use Rattle.geometry.specs.Rings as specs;
 ghost use Rattle.geometry.specs.Rings.{node_ring, ring_of};
@@ -83,20 +83,6 @@ impl<'a> Ring for NodePoints<'a> {
 
     fn at(&self, i: usize) -> Point {
         node_point(self.pts, self.nodes, i)
-    }
-}
-
-impl<'a> NodePoints<'a> {
-    // The points of `len` of the nodes, from place `start` on.
-    pub fn part(&self, start: usize, len: usize) -> NodePoints<'a>
-        requires { start + len ≤ length self.now.nodes.now }
-        ensures points { result.pts.now ≡ self.now.pts.now }
-        ensures nodes { result.nodes.now ≡ take len (drop start self.now.nodes.now) }
-    {
-        NodePoints {
-            pts: self.pts,
-            nodes: &self.nodes[start..start + len],
-        }
     }
 }
 

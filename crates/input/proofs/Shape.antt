@@ -73,6 +73,3 @@ shape_of {j = j} l e z = rw e (accepted j l (sym z))
 module _ (j : Job) (b : Held) (r : ℕ) (e : r ≡ input_number j (lengths b)) (z : r ≡ 0) where
   pub right_lengths_lem : lengths b ≡ lengths_of points_length quads_length front_node_limit front_limit
   right_lengths_lem = lengths_lent (accepted j (lengths b) (sym e ∙ z))
-
-  pub outline_read : sum_of j.loops * 2 ≤ length j.coords
-  outline_read = let h = (accepted j (lengths b) (sym e ∙ z)).even in omega arith

@@ -3,15 +3,7 @@
 // written whole.
 #![tactic(auto)]
 
+// The buffers: one byte more than a job's text may have, and what an answer may have.
 fn main(rt: HostRuntime) {
-    let mut input = standard::input_buffer();
-    let Ok(n) = standard::read_input(&mut rt.stdin(), &mut input) else {
-        standard::say_unread(&rt);
-        return;
-    };
-    let mut output = standard::answer_buffer();
-    let m = loop_text::put_loops(&mut output, &input[..n]);
-    if m <= output.len() {
-        standard::write_output(&rt, &output[..m]);
-    }
+    standard::turn::<65537, 270336, _>(&rt, |text, out| loop_text::put_loops(out, text));
 }

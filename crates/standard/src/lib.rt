@@ -6,7 +6,7 @@ mod buffers;
 ghost use Rattle.std.specs.Prelude.{◌≡◌, ◌<◌, ◌≤◌, length, take, drop, IfOk};
 ghost use Rattle.std.specs.Io.KnownBytes.{Consumes, IsAtEnd};
 
-pub use buffers::{answer_buffer, input_buffer};
+pub use buffers::answer_buffer;
 use std::io;
 use std::io::Read;
 
