@@ -45,13 +45,8 @@ fn one_front(job: &Job, n: u8, lent: &mut Lent) -> Result<Counts, Refusal>
     lent.front_lengths[0] = u16::from(n);
     Ok(Counts {
         points: coords.len() / 2,
-        quads: 0,
         fronts: 1,
-        row_quads: 0,
-        core_quads: 0,
-        row_rounds: 0,
-        passes_begun: 0,
-        laid: 0,
+        ..Counts::default()
     })
 }
 

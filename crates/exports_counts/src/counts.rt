@@ -74,16 +74,7 @@ pub fn put_answer(counts: &mut [u64], before: Counts, answer: Result<Counts, Ref
 pub fn no_counts() -> Counts
     ensures { result ≡ no_counts }
 {
-    Counts {
-        points: 0,
-        quads: 0,
-        fronts: 0,
-        row_quads: 0,
-        core_quads: 0,
-        row_rounds: 0,
-        passes_begun: 0,
-        laid: 0,
-    }
+    Counts::default()
 }
 
 // Every place becomes 0.
