@@ -41,6 +41,7 @@ pub fn put_closures(quads: &mut [u16], at: usize, closures: &[Closure])
     ensures { quads.new ≡ sets quads.old at (joined (map quad_nodes (flat_map closure_quads closures.now))) }
 {
     let mut place = at;
+    // a running place: `scan` would keep it inside a closure
     for &closure in closures {
         put_closure(quads, place, closure);
         place += closure.count() * 4;

@@ -30,6 +30,7 @@ pub fn close_small_fronts(
     let all = find_closures(&lent.fronts(counts), limit);
     let closures = &all[..counts.fronts];
     let n = count_quads(closures);
+    // the quads alone: a closing adds no points, which `is_full` would test again
     if 4096 < laid + n {
         return Err(Refusal::Full);
     }

@@ -1,6 +1,7 @@
 // The calls over lent buffers: 8,192 f64 for points, 16,384 u16 for quads, 2,048 for front nodes, 16 for front lengths, and
 // the eight counts in document 01's order. Each answers 0 or a refusal's number; another length of a buffer is number 1.
-// The parameters stand apart, as the header for C has them: the options one by one, and each buffer as its own slice.
+// The parameters stand apart, as the header for C has them: the options one by one, and each buffer as its own slice. The bodies differ
+// in the call that they make, and each of C's names needs one.
 ghost use Rattle.std.specs.Prelude.{◌≡◌, length};
 ghost use Rattle.state.specs.Call.{lengths_of};
 ghost use Rattle.input.specs.Job.{job};
@@ -8,7 +9,7 @@ ghost use Rattle.sampling.specs.Sample.{sample_call};
 ghost use Rattle.rules.specs.Calls.{job_call};
 ghost use Rattle.exports_counts.specs.Calls.{job_passed, options_of, passed};
 
-use exports_counts::{clear_counts, no_counts, options_of, put_answer};
+use exports_counts::{no_counts, options_of, put_answer};
 use input::Job;
 use state::Lent;
 
@@ -42,11 +43,11 @@ pub extern "C" fn pave_sample(
         front_nodes,
         front_lengths,
     };
-    if counts.len() != 8 {
+    let Some(counts) = counts.as_mut_array::<8>() else {
         lent.clear();
-        clear_counts(counts);
+        counts.fill(0);
         return 1;
-    }
+    };
     let options = options_of(
         corner_margin,
         min_edge_fraction,
@@ -95,11 +96,11 @@ pub extern "C" fn pave_job(
         front_nodes,
         front_lengths,
     };
-    if counts.len() != 8 {
+    let Some(counts) = counts.as_mut_array::<8>() else {
         lent.clear();
-        clear_counts(counts);
+        counts.fill(0);
         return 1;
-    }
+    };
     let options = options_of(
         corner_margin,
         min_edge_fraction,

@@ -1,5 +1,5 @@
-// The counts as a slice of eight u64, in document 01's order.
-ghost use Rattle.std.specs.Prelude.{◌≡◌, length, replicate};
+// The counts as eight u64, in document 01's order.
+ghost use Rattle.std.specs.Prelude.{◌≡◌};
 ghost use Rattle.state.specs.State.{no_counts};
 ghost use Rattle.state.specs.Call.{answer_counts, answer_number};
 ghost use Rattle.state.specs.Refusals.{answered};
@@ -7,8 +7,7 @@ ghost use Rattle.exports_counts.specs.Calls.{count_list, counts_from};
 
 use state::{Counts, Refusal};
 
-pub fn counts_of(counts: &[u64]) -> Counts
-    requires { length counts.now ≡ 8 }
+pub fn counts_of(counts: &[u64; 8]) -> Counts
     ensures { result ≡ counts_from counts.now }
 {
     let &[
@@ -20,10 +19,7 @@ pub fn counts_of(counts: &[u64]) -> Counts
         row_rounds,
         passes_begun,
         laid,
-    ] = counts
-    else {
-        unreachable!();
-    };
+    ] = counts;
     // as: Rust has no From between u64 and usize
     Counts {
         points: points as usize,
@@ -37,12 +33,11 @@ pub fn counts_of(counts: &[u64]) -> Counts
     }
 }
 
-fn put_counts(counts: &mut [u64], after: Counts)
-    requires { length counts.old ≡ 8 }
+fn put_counts(counts: &mut [u64; 8], after: Counts)
     ensures { counts.new ≡ count_list after }
 {
     // as: Rust has no From between usize and u64
-    counts.copy_from_slice(&[
+    *counts = [
         after.points as u64,
         after.quads as u64,
         after.fronts as u64,
@@ -51,12 +46,11 @@ fn put_counts(counts: &mut [u64], after: Counts)
         after.row_rounds as u64,
         after.passes_begun as u64,
         after.laid as u64,
-    ]);
+    ];
 }
 
 // The counts after an answer, `before` where it is a refusal, and its number.
-pub fn put_answer(counts: &mut [u64], before: Counts, answer: Result<Counts, Refusal>) -> u32
-    requires { length counts.old ≡ 8 }
+pub fn put_answer(counts: &mut [u64; 8], before: Counts, answer: Result<Counts, Refusal>) -> u32
     ensures { (result ≡ answer_number (answered answer)) × (counts.new ≡ count_list (answer_counts before (answered answer))) }
 {
     match answer {
@@ -75,11 +69,4 @@ pub fn no_counts() -> Counts
     ensures { result ≡ no_counts }
 {
     Counts::default()
-}
-
-// Every place becomes 0.
-pub fn clear_counts(counts: &mut [u64])
-    ensures { counts.new ≡ replicate (length counts.old) 0 }
-{
-    counts.fill(0);
 }

@@ -1,4 +1,4 @@
-// The measures of an outline: the coordinates of all loops and the loops' lengths, the outer one first.
+// The measures of an outline: the coordinates of all loops and the loops' lengths, the outer one first, as the header for C has them.
 ghost use Rattle.std.specs.Prelude.{◌≡◌, false, true, MatchOption};
 ghost use Rattle.exports_geometry.specs.Measures.{point};
 ghost use Rattle.exports_geometry.specs.Outline.{area_or, boundary_or, contains_or_not, loops_fit};
@@ -13,6 +13,7 @@ fn loops_fit(coords: &[f64], loop_lengths: &[u16]) -> bool
     if loop_lengths.len() == 1 {
         return usize::from(loop_lengths[0]) <= left;
     }
+    // what is left goes from loop to loop: `scan` would keep it inside a closure
     for n in loop_lengths {
         let n = usize::from(*n);
         if left < n {

@@ -1,6 +1,7 @@
 // The calls over lent buffers: 8,192 f64 for points, 16,384 u16 for quads, 2,048 for front nodes, 16 for front lengths, and
 // the eight counts in document 01's order. Each answers 0 or a refusal's number; another length of a buffer is number 1.
-// The parameters stand apart, as the header for C has them: the options one by one, and each buffer as its own slice.
+// The parameters stand apart, as the header for C has them: the options one by one, and each buffer as its own slice. The bodies differ
+// in the call that they make, and each of C's names needs one.
 ghost use Rattle.std.specs.Prelude.{◌≡◌};
 ghost use Rattle.input.specs.Job.{job};
 ghost use Rattle.rules.specs.RowCall.{row_call};
@@ -35,9 +36,9 @@ pub extern "C" fn pave_row(
         (row_call (job coords.now loop_lengths.now h (options_of corner_margin min_edge_fraction front_gap max_row_rounds seam corner_limit)) front)
         points.old quads.old front_nodes.old front_lengths.old counts.old }
 {
-    if counts.len() != 8 {
+    let Some(counts) = counts.as_mut_array::<8>() else {
         return 1;
-    }
+    };
     let before = counts_of(counts);
     let options = options_of(
         corner_margin,
@@ -86,9 +87,9 @@ pub extern "C" fn pave_close(
         (close_call (job coords.now loop_lengths.now h (options_of corner_margin min_edge_fraction front_gap max_row_rounds seam corner_limit)))
         points.old quads.old front_nodes.old front_lengths.old counts.old }
 {
-    if counts.len() != 8 {
+    let Some(counts) = counts.as_mut_array::<8>() else {
         return 1;
-    }
+    };
     let before = counts_of(counts);
     let options = options_of(
         corner_margin,
@@ -137,9 +138,9 @@ pub extern "C" fn pave_fan(
         (fan_call (job coords.now loop_lengths.now h (options_of corner_margin min_edge_fraction front_gap max_row_rounds seam corner_limit)))
         points.old quads.old front_nodes.old front_lengths.old counts.old }
 {
-    if counts.len() != 8 {
+    let Some(counts) = counts.as_mut_array::<8>() else {
         return 1;
-    }
+    };
     let before = counts_of(counts);
     let options = options_of(
         corner_margin,

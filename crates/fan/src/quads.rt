@@ -9,7 +9,7 @@ ghost use Rattle.fan_search.specs.Quads.{with_centre};
 use fan_search::Fan;
 use state::{narrow, put_quad};
 
-// Writes a quad from place `at` on, turned or not.
+// Writes a quad from place `at` on, turned or not; its four numbers come one by one, as `put_quad` takes them.
 fn put_turned(quads: &mut [u16], at: usize, turned: bool, a: u16, b: u16, c: u16, d: u16)
     requires { at + 4 ≤ length quads.old }
     ensures { quads.new ≡ sets quads.old at (quad_nodes (cond turned (quad d c b a) (quad a b c d))) }

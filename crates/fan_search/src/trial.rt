@@ -12,7 +12,7 @@ use crate::Centre;
 use crate::grid::centre_of;
 use crate::quads::Fan;
 use geometry::{NodePoints, Outline, Point};
-use state::Refusal;
+use state::{Refusal, is_full};
 
 // The centre of the fan of a front, where `quads` quads are laid, if the fan stands.
 pub fn try_fan(
@@ -38,7 +38,7 @@ pub fn try_fan(
     if !float::is_finite(clearance) || clearance <= 0.0 {
         return Err(Refusal::Centre);
     }
-    if 4096 < front.pts.len() / 2 + 1 || 4096 < quads + n / 2 {
+    if is_full(front.pts.len() / 2 + 1, quads + n / 2) {
         return Err(Refusal::Full);
     }
     let fan = Fan {

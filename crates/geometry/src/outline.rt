@@ -1,6 +1,6 @@
 // The plate's outline as the job has it: the coordinates of all loops, one loop after the other, and the loops' lengths,
-// the outer one first, then the holes. Each walk over the loops shortens the coordinates by the ring that it passed; a place kept beside
-// the coordinates was slower (docs/DECISIONS.md).
+// the outer one first, then the holes. Each walk over the loops shortens the coordinates by the ring that it passed: a place beside them
+// would be one number more to keep.
 ghost use Rattle.std.specs.Prelude.{◌≡◌, ◌*◌, ◌≤◌, length};
 ghost use Rattle.std.specs.Float.Ieee.{neg};
 ghost use Rattle.float.specs.Helpers.{decimal};

@@ -1,5 +1,6 @@
 // The numbers 1 to 6, which a job's input gives.
 ghost use Rattle.std.specs.Prelude.{◌≡◌, IfOk};
+ghost use Rattle.state.specs.Call.{lengths_of};
 ghost use Rattle.state.specs.Lent.{lengths_in};
 ghost use Rattle.state.specs.Refusals.{refusal_of};
 ghost use Rattle.input.specs.Job as inputs;
@@ -8,26 +9,33 @@ use crate::{Accepted, Job, Options};
 use geometry::Outline;
 use state::{Lent, Refusal, outside, sum_of, wrong_coordinate};
 
-fn wrong_lengths(lent: &Lent) -> bool
-    ensures { result ≡ inputs.wrong_lengths (lengths_in lent.now) }
+// The lengths of the four lent buffers one by one, for who has no buffers yet.
+fn wrong_lengths(points: usize, quads: usize, front_nodes: usize, front_lengths: usize) -> bool
+    ensures { result ≡ inputs.wrong_lengths (lengths_of points quads front_nodes front_lengths) }
 {
-    if lent.points.len() != 8192 {
+    if points != 8192 {
         return true;
     }
-    if lent.quads.len() != 16384 {
+    if quads != 16384 {
         return true;
     }
-    if lent.front_nodes.len() != 2048 {
+    if front_nodes != 2048 {
         return true;
     }
-    lent.front_lengths.len() != 16
+    front_lengths != 16
 }
 
 // Number 1.
-fn wrong_shape(job: &Job, lent: &Lent) -> bool
-    ensures { result ≡ inputs.wrong_shape (inputs.job_of job.now) (lengths_in lent.now) }
+fn wrong_shape(
+    job: &Job,
+    points: usize,
+    quads: usize,
+    front_nodes: usize,
+    front_lengths: usize,
+) -> bool
+    ensures { result ≡ inputs.wrong_shape (inputs.job_of job.now) (lengths_of points quads front_nodes front_lengths) }
 {
-    if wrong_lengths(lent) {
+    if wrong_lengths(points, quads, front_nodes, front_lengths) {
         return true;
     }
     let loops = job.loop_lengths.len();
@@ -83,8 +91,14 @@ fn wrong_options(h: f64, options: Options) -> bool
 
 impl<'a> Job<'a> {
     // The test of a job and of the lengths of the lent buffers: the job, as the calls go on with it.
-    pub fn check(&self, lent: &Lent) -> Result<Accepted<'a>, Refusal>
-        ensures value { refusal_of result ≡ inputs.input_number (inputs.job_of self.now) (lengths_in lent.now) }
+    pub fn check_with(
+        &self,
+        points: usize,
+        quads: usize,
+        front_nodes: usize,
+        front_lengths: usize,
+    ) -> Result<Accepted<'a>, Refusal>
+        ensures value { refusal_of result ≡ inputs.input_number (inputs.job_of self.now) (lengths_of points quads front_nodes front_lengths) }
         ensures same { IfOk result (λ a. inputs.accepted_of a ≡ inputs.job_of self.now) }
     {
         let Job {
@@ -93,7 +107,7 @@ impl<'a> Job<'a> {
             h,
             options,
         } = *self;
-        if wrong_shape(self, lent) {
+        if wrong_shape(self, points, quads, front_nodes, front_lengths) {
             return Err(Refusal::Shape);
         }
         if wrong_size(h) {
@@ -120,5 +134,18 @@ impl<'a> Job<'a> {
             h,
             options,
         })
+    }
+
+    // The same of lent buffers.
+    pub fn check(&self, lent: &Lent) -> Result<Accepted<'a>, Refusal>
+        ensures value { refusal_of result ≡ inputs.input_number (inputs.job_of self.now) (lengths_in lent.now) }
+        ensures same { IfOk result (λ a. inputs.accepted_of a ≡ inputs.job_of self.now) }
+    {
+        self.check_with(
+            lent.points.len(),
+            lent.quads.len(),
+            lent.front_nodes.len(),
+            lent.front_lengths.len(),
+        )
     }
 }

@@ -8,4 +8,5 @@ pub mod Points
 pub mod Following
 pub mod Storing
 pub mod Answering
+pub mod Holding
 pub mod Callers

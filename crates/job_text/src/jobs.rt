@@ -32,22 +32,19 @@ impl JobRead {
     }
 }
 
-// Why a text gives no job: it is the text of none, or of one with too many loops or pairs.
+// Why a text gives no job, with the number that refuses it: it is the text of none, or of one with too many loops or pairs.
 #[derive(Clone, Copy, PartialEq, Eq, Debug)]
 pub enum TextError {
-    Unreadable,
-    TooMany,
+    Unreadable = 11,
+    TooMany = 1,
 }
 
 impl TextError {
-    // The number that refuses the text.
+    // as: Rust has no From between an enum and its numbers
     pub fn number(self) -> u32
         ensures { result ≡ number_of self }
     {
-        match self {
-            TextError::Unreadable => 11,
-            TextError::TooMany => 1,
-        }
+        self as u32
     }
 }
 

@@ -4,5 +4,7 @@
 mod jobs;
 mod lines;
 mod loops;
+mod text_job;
 
 pub use jobs::{JobRead, TextError, read_job};
+pub use text_job::TextJob;

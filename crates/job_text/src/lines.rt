@@ -47,6 +47,8 @@ pub fn read_at(text: &[u8], at: usize) -> Option<Read<Point>>
 }
 
 // The size in the field from `at` on.
+// `read_whole` ends as it does: what each refuses has an edit of its own, and a function for the lines that they share would be no
+// shorter than they are.
 pub fn read_size(text: &[u8], at: usize) -> Option<Read<f64>>
     requires { at ≤ length text.now }
     ensures { result ≡ measure_of text.now (as_whole (reading.read_size (drop at text.now))) }

@@ -2,26 +2,23 @@
 use mathlib.Core.Path.{◌≡◌, sym, ◌∙◌, ap}
 use mathlib.Core.List.{List}
 use mathlib.Core.Option.{none, some, Option-elim}
-use Prim.Native.Nat.{ℕ, ◌*◌}
+use Prim.Native.Nat.{ℕ}
 use lib.Ieee.{Float}
 use lib.ListN.{take}
 use Rattle.state.specs.Outcome.{Outcome, refused, gives}
 use Rattle.state.specs.declared.Counts.{Counts}
-use Rattle.state.specs.Limits.{front_limit, front_node_limit, points_length, quads_length}
 use Rattle.state.specs.State.{Held, cut, reading, no_counts}
 use Rattle.state.specs.Call.{held, left, lengths_of, lent, job_left}
 use Rattle.state.specs.Sound.{Sound}
-use Rattle.input.specs.Defaults.{defaults}
-use Rattle.input.specs.Job.{Job, job, input_number}
+use Rattle.input.specs.Job.{Job, input_number}
 use Rattle.sampling.specs.Sample.{on_job, sample_call}
 use Rattle.job.proofs.Paving.{started, start_sound}
 use Rattle.job_text.specs.Drawing.{Drawing, job_of}
 use Rattle.job_text.specs.Reading.{read_job}
-use Rattle.job_text.specs.Answers.{number_of, JobReadIs}
-use Rattle.job_text.specs.declared.jobs.JobRead.{JobRead}
+use Rattle.job_text.specs.Answers.{number_of, job_answer}
 use Rattle.job_text.specs.declared.jobs.TextError.{TextError}
 use Rattle.job_text.specs.declared.jobs.TextError.TheVariants.{Unreadable, TooMany}
-use Rattle.job_text.proofs.Callers.{job_is, job_made, too_many_is, unreadable_is}
+use Rattle.job_text.proofs.Callers.{job_is, too_many_is, unreadable_is}
 use Rattle.plate_text.proofs.Texts.{many_1}
 use Rattle.std.specs.Prelude.{Ok, Err}
 use Rattle.answer_text.specs.AnswerText.{refused_text}
@@ -43,22 +40,19 @@ pub read_some : (t : List ℕ) (d : Drawing) → read_job t ≡ some d → loop_
 unfolding sampled_text Option-elim
 read_some t d e = rw e
 
-module _ (t : List ℕ) (c : List Float) (l : List ℕ) where
-  pub refused_is : (e : TextError) → JobReadIs t c l (Err e) → refused_text (number_of e) ≡ sampled_text t
-  refused_is Unreadable r = read_none t (unreadable_is t c l r)
-  refused_is TooMany r = let m = too_many_is t c l r in sym (refused_1 (job_of m.0) (many_1 m.0 m.2)) ∙ read_some t m.0 m.1
+module _ (t : List ℕ) where
+  pub refused_is : (e : TextError) → Err e ≡ job_answer (read_job t) → refused_text (number_of e) ≡ sampled_text t
+  refused_is Unreadable r = read_none t (unreadable_is t r)
+  refused_is TooMany r = let m = too_many_is t r in sym (refused_1 (job_of m.0) (many_1 m.0 m.2)) ∙ read_some t m.0 m.1
 
-  pub sampled : (j : JobRead) → JobReadIs t c l (Ok j) → loop_lines (sample_call (job (take (j.pairs * 2) c) (take j.loops l) j.size defaults) lent) ≡ sampled_text t
+  pub sampled : (j : Job) → Ok j ≡ job_answer (read_job t) → loop_lines (sample_call j lent) ≡ sampled_text t
   sampled j r =
-      let f = job_is t c l j r in
-      ap (λ (x : Job). loop_lines (sample_call x lent)) (sym (job_made f)) ∙ read_some t f.drawing f.is
+      let f = job_is t j r in
+      ap (λ (x : Job). loop_lines (sample_call x lent)) f.job ∙ read_some t f.drawing f.is
 
 -- ---- the answer of sampling in the lent buffers
 
 module _ (a : Outcome Counts) (p : List Float) (q n l : List ℕ) (j : Job) (P Q N L : ℕ) (call : left a (held p q n l no_counts) ≡ sample_call j (lengths_of P Q N L)) where
-  pub same_call : P ≡ points_length → Q ≡ quads_length → N ≡ front_node_limit → L ≡ front_limit → left a (held p q n l no_counts) ≡ sample_call j lent
-  same_call e f g k = call ∙ rw (e, f, g, k)
-
   pub done_sound : (c : Counts) → a ≡ gives c → Sound (held p q n l c)
   done_sound c e =
       let d : left (gives c) (held p q n l no_counts) ≡ sample_call j (lengths_of P Q N L) = rw e at call in

@@ -16,8 +16,8 @@ ghost use Rattle.loop_text.specs.SampledText.{loop_lines, sampled_text};
 
 use answer_text::{put_refused, put_rings};
 use input::Job;
-use job_text::read_job;
-use state::Lent;
+use job_text::TextJob;
+use state::Arrays;
 use text::Writer;
 
 // A line for each loop, of two slices: of a slice the check knows that its numbers fit, of a field it does not.
@@ -37,16 +37,8 @@ fn put_sampled(w: &mut Writer, job: &Job)
     ensures upper_bound { w.new.at ≤ w.old.at + text_limit }
     ensures same { Same w.old w.new }
 {
-    let mut points = [0.0f64; 8192];
-    let mut quads = [0u16; 16384];
-    let mut front_nodes = [0u16; 2048];
-    let mut front_lengths = [0u16; 16];
-    let mut lent = Lent {
-        points: &mut points,
-        quads: &mut quads,
-        front_nodes: &mut front_nodes,
-        front_lengths: &mut front_lengths,
-    };
+    let mut arrays = Arrays::zeros();
+    let mut lent = arrays.lend();
     match sampling::sample(job, &mut lent) {
         Ok(counts) => {
             let loops = lent.fronts(counts);
@@ -62,13 +54,8 @@ fn put_text(w: &mut Writer, input: &[u8])
     ensures upper_bound { w.new.at ≤ w.old.at + text_limit }
     ensures same { Same w.old w.new }
 {
-    let mut coords = [0.0f64; 4096];
-    let mut loop_lengths = [0u16; 16];
-    match read_job(input, &mut coords, &mut loop_lengths) {
-        Ok(read) => {
-            let job = read.job(&coords, &loop_lengths);
-            put_sampled(w, &job);
-        }
+    match TextJob::read(input) {
+        Ok(read) => put_sampled(w, &read.job()),
         Err(error) => put_refused(w, error.number()),
     }
 }

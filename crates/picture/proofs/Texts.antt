@@ -1,32 +1,31 @@
--- What `read_job` answers, as `draw_text` goes on from it, and the buffer with zeros behind the picture.
-use mathlib.Core.Path.{◌≡◌, refl, ◌∙◌}
+-- What `TextJob::read` answers, as `draw_text` goes on from it, and the buffer with zeros behind the picture.
+use mathlib.Core.Path.{◌≡◌, refl, ◌∙◌, ap}
 use mathlib.Core.Bool.{false}
 use mathlib.Core.List.{List, [], ◌∷◌, map}
 use mathlib.Core.Option.{some, Option-elim}
 use Prim.Native.Nat.{ℕ, ◌-◌, ◌*◌, ◌<◌, ◌≤◌}
 use native.Mathlib.Nat.{zero-add}
 use native.Mathlib.Omega.{arith}
-use lib.Ieee.{Float}
-use lib.ListN.{length, take, replicate, length-take, length-append}
+use lib.ListN.{length, replicate, length-map, length-append}
+use lib.Dec.{ltb}
 use lib.Seq.{sets}
-use borrow.Author.Tests.{lt-ltb, le-ltb, eq-eqb, ne_eqb}
+use borrow.Author.Tests.{lt-ltb, le-ltb, ltb-false, eq-eqb, ne_eqb}
 use Rattle.geometry.specs.Domain.{sum_of}
 use Rattle.state.specs.Call.{lent}
 use Rattle.state.specs.State.{joined}
-use Rattle.input.specs.Job.{Job, job}
-use Rattle.input.specs.Defaults.{defaults}
+use Rattle.state.proofs.Basics.{or_false}
+use Rattle.input.specs.Job.{Job, loop_limit, pair_limit}
 use Rattle.rules.specs.Calls.{job_call}
 use Rattle.text.specs.Putting.{Put}
 use Rattle.text.proofs.Midst.{zeros-behind}
 use Rattle.job_text.specs.Drawing.{Place, Drawing, loops, job_of}
 use Rattle.job_text.specs.Reading.{read_job}
-use Rattle.job_text.specs.Answers.{number_of, too_many, JobReadIs}
-use Rattle.job_text.specs.declared.jobs.JobRead.{JobRead}
+use Rattle.job_text.specs.Answers.{number_of, too_many, job_answer}
 use Rattle.job_text.specs.declared.jobs.TextError.{TextError}
 use Rattle.job_text.specs.declared.jobs.TextError.TheVariants.{Unreadable, TooMany}
 use Rattle.std.specs.Prelude.{Ok, Err}
 use Rattle.job_text.proofs.Storing.{length-coordinates}
-use Rattle.job_text.proofs.Callers.{JobIs, job_is, too_many_is, unreadable_is}
+use Rattle.job_text.proofs.Callers.{job_is, too_many_is, unreadable_is}
 use Rattle.captions.specs.Captions.{words_text}
 use Rattle.picture.specs.Plates.{answer_picture, Few}
 use Rattle.picture.specs.Picture.{job_picture, draw_text, picture_room, drawn_in, draw_call}
@@ -54,31 +53,32 @@ few_points : (d : Drawing) → sum_of (job_of d).loops * 2 ≤ length (job_of d)
 unfolding job_of
 few_points d = let s = points_sum (loops d) in let c = length-coordinates (joined (loops d)) in omega arith
 
-drawing_is : (t : List ℕ) (coords : List Float) (ns : List ℕ) (size : Float) (d : Drawing) → read_job t ≡ some d → too_many d ≡ false → size ≡ (job_of d).h → coords ≡ (job_of d).coords → ns ≡ (job_of d).loops
-    → job_picture (job coords ns size defaults) ≡ draw_text t
-unfolding draw_text Option-elim job_of
-drawing_is t coords ns size d i m h c l = rw (i, m, h, c, l)
+drawing_few : (d : Drawing) → too_many d ≡ false → Few (job_of d).coords (job_of d).loops
+unfolding job_of too_many
+drawing_few d m =
+    let both = or_false (ltb loop_limit (length (loops d))) (ltb pair_limit (length (joined (loops d)))) m in
+    let a = ltb-false loop_limit (length (loops d)) both.0 in
+    let b = ltb-false pair_limit (length (joined (loops d))) both.1 in
+    let c = length-coordinates (joined (loops d)) in
+    let l = length-map (loops d) length in
+    record { coords = omega arith; loops = omega arith; points = few_points d }
 
-module _ (t : List ℕ) (c : List Float) (l : List ℕ) where
-  pub refused : (e : TextError) → JobReadIs t c l (Err e) → words_text (number_of e) ≡ draw_text t
+module _ (t : List ℕ) where
+  pub refused : (e : TextError) → Err e ≡ job_answer (read_job t) → words_text (number_of e) ≡ draw_text t
   unfolding draw_text Option-elim
-  refused Unreadable is = let n = unreadable_is t c l is in rw n
-  refused TooMany is = let m = too_many_is t c l is in rw (m.1, m.2)
+  refused Unreadable is = let n = unreadable_is t is in rw n
+  refused TooMany is = let m = too_many_is t is in rw (m.1, m.2)
 
-  module _ (j : JobRead) (is : JobReadIs t c l (Ok j)) where
-    pub found : JobIs t c l j
-    found = job_is t c l j is
+  read_some : (d : Drawing) → read_job t ≡ some d → too_many d ≡ false → job_picture (job_of d) ≡ draw_text t
+  unfolding draw_text Option-elim
+  read_some d i m = rw (i, m)
 
-    pub job-drawn : job_picture (job (take (j.pairs * 2) c) (take j.loops l) j.size defaults) ≡ draw_text t
-    job-drawn = let f = found in drawing_is t (take (j.pairs * 2) c) (take j.loops l) j.size f.drawing f.is f.fits f.h f.coords f.lengths
+  module _ (j : Job) (is : Ok j ≡ job_answer (read_job t)) where
+    pub job-drawn : job_picture j ≡ draw_text t
+    job-drawn = let f = job_is t j is in ap job_picture f.job ∙ read_some f.drawing f.is f.fits
 
-    pub job_few : Few (take (j.pairs * 2) c) (take j.loops l)
-    job_few =
-        let f = found in
-        let few = f.few in
-        let a = length-take (j.pairs * 2) c in
-        let b = length-take j.loops l in
-        record { coords = omega arith; loops = omega arith; points = rw (f.coords, f.lengths) (few_points f.drawing) }
+    pub job_few : Few j.coords j.loops
+    job_few = let f = job_is t j is in rw f.job (drawing_few f.drawing f.fits)
 
 -- ---- the buffer
 

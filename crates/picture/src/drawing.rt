@@ -9,8 +9,8 @@ ghost use Rattle.picture.specs.Picture.{draw_call, draw_text, drawn_in, job_pict
 use crate::plates::put_answer;
 use captions::put_words;
 use input::Job;
-use job_text::read_job;
-use state::{Lent, Refusal};
+use job_text::TextJob;
+use state::{Arrays, Refusal};
 use text::{Writer, put_zeros};
 
 // The picture of a job.
@@ -25,16 +25,8 @@ fn put_job(w: &mut Writer, job: &Job)
         put_words(w, Refusal::OuterLoop.number());
         return;
     }
-    let mut points = [0.0f64; 8192];
-    let mut quads = [0u16; 16384];
-    let mut front_nodes = [0u16; 2048];
-    let mut front_lengths = [0u16; 16];
-    let mut lent = Lent {
-        points: &mut points,
-        quads: &mut quads,
-        front_nodes: &mut front_nodes,
-        front_lengths: &mut front_lengths,
-    };
+    let mut arrays = Arrays::zeros();
+    let mut lent = arrays.lend();
     let answer = job::job(job, &mut lent);
     put_answer(w, job, answer, &lent);
 }
@@ -45,13 +37,8 @@ fn put_drawing(w: &mut Writer, input: &[u8])
     ensures upper_bound { w.new.at ≤ w.old.at + picture_room }
     ensures same { Same w.old w.new }
 {
-    let mut coords = [0.0f64; 4096];
-    let mut loop_lengths = [0u16; 16];
-    match read_job(input, &mut coords, &mut loop_lengths) {
-        Ok(read) => {
-            let job = read.job(&coords, &loop_lengths);
-            put_job(w, &job);
-        }
+    match TextJob::read(input) {
+        Ok(read) => put_job(w, &read.job()),
         Err(error) => put_words(w, error.number()),
     }
 }

@@ -89,7 +89,8 @@ fn put_outlined(w: &mut Writer, frame: Frame, outline: &Outline, n: u32)
     put_closing(w);
 }
 
-// The picture of a plate that is paved.
+// The picture of a plate that is paved. `Few` is a clause of four functions and no fact of `Job`: only a job that a text gave has so few
+// points.
 fn put_plate(w: &mut Writer, job: &Job, lent: &Lent, counts: Counts)
     requires picture_room_in_bounds { w.old.at + picture_room ≤ length w.old.out.now }
     requires few { pictures.Few job.now.coords.now job.now.loop_lengths.now }

@@ -23,35 +23,40 @@ fn whole(n: usize) -> f64
     f64::from(n as u32)
 }
 
-// The `j`th of `k` inner points of the side from `a` to `b`.
-fn inner_point(a: Point, b: Point, length: f64, margin: f64, span: f64, k: usize, j: usize) -> Point
-    requires { (k < 4096) × (j < 4096) }
-    ensures { result ≡ between a b length margin span k j }
-{
-    let t = (margin + span * (whole(j) + 0.5) / whole(k)) / length;
-    Point {
-        x: a.x + t * (b.x - a.x),
-        y: a.y + t * (b.y - a.y),
-    }
-}
-
-// Writes the `k` inner points of a side from place `at` on.
-fn place_inner(
+// A side from `a` to `b` with its length, its margin at `a` and its span, and how many inner points it gets.
+#[derive(Clone, Copy)]
+struct Side {
     a: Point,
     b: Point,
     length: f64,
     margin: f64,
     span: f64,
-    k: usize,
-    points: &mut [f64],
-    at: usize,
-)
-    requires { (k < 4096) × ((at + k) * 2 ≤ lists.length points.old) }
-    ensures { points.new ≡ sets points.old (at * 2) (betweens a b length margin span k k) }
-{
-    for j in 0..k {
-        let p = inner_point(a, b, length, margin, span, k, j);
-        geometry::put_point(points, at + j, p.x, p.y);
+    parts: usize,
+    ghost few: { parts < 4096 },
+}
+
+impl Side {
+    // The `j`th of its inner points.
+    fn point(self, j: usize) -> Point
+        requires { j < 4096 }
+        ensures { result ≡ between self.a self.b self.length self.margin self.span self.parts j }
+    {
+        let t = (self.margin + self.span * (whole(j) + 0.5) / whole(self.parts)) / self.length;
+        Point {
+            x: self.a.x + t * (self.b.x - self.a.x),
+            y: self.a.y + t * (self.b.y - self.a.y),
+        }
+    }
+
+    // Writes its inner points from place `at` on.
+    fn place(self, points: &mut [f64], at: usize)
+        requires { (at + self.parts) * 2 ≤ lists.length points.old }
+        ensures { points.new ≡ sets points.old (at * 2) (betweens self.a self.b self.length self.margin self.span self.parts self.parts) }
+    {
+        for j in 0..self.parts {
+            let p = self.point(j);
+            geometry::put_point(points, at + j, p.x, p.y);
+        }
     }
 }
 
@@ -90,14 +95,22 @@ fn place_side(
     if length <= 1e-12 {
         return 1;
     }
-    let k = parts_of(inner_of(span, spacing.h), i, longer);
-    if k == 0 {
+    let parts = parts_of(inner_of(span, spacing.h), i, longer);
+    if parts == 0 {
         return 1;
     }
     let b = ring.at(geometry::next_of(ring.n, i));
     let margin = margin_at(ring, spacing, i);
-    place_inner(a, b, length, margin, span, k, points, at + 1);
-    k + 1
+    let side = Side {
+        a,
+        b,
+        length,
+        margin,
+        span,
+        parts,
+    };
+    side.place(points, at + 1);
+    parts + 1
 }
 
 // Writes the loop's nodes from place `at` on, with one more inner point on the side `longer`; answers how many.

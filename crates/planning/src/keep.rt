@@ -51,6 +51,7 @@ pub fn keep_points(given: &FirstPoints<'_>, kept: &mut [f64]) -> usize
     ensures { (result ≤ given.now.n) × (result * 2 ≡ length (rings.kept (ring_of given.now.pts.now given.now.n) given.now.n)) × (kept.new ≡ sets kept.old 0 (rings.kept (ring_of given.now.pts.now given.now.n) given.now.n)) }
 {
     let mut m = 0usize;
+    // by place, as a ring is asked
     for k in 0..given.n {
         m = keep_point(kept, m, given.at(k));
     }
@@ -69,7 +70,7 @@ pub fn unclosed(kept: &FirstPoints<'_>) -> usize
     ensures { (result ≡ rings.unclosed kept.now.pts.now kept.now.n) × (result ≤ kept.now.n) }
 {
     let mut m = kept.n;
-    // from the end, until one stays: no index goes over the points
+    // from the end, until one stays: `find` would need a case of its own for one point or none
     while 1 < m && close(kept.at(0), kept.at(m - 1)) {
         m -= 1;
     }

@@ -4,7 +4,6 @@ use mathlib.Core.Bool.{Bool, true, false, ◌||◌}
 use Prim.Native.Nat.{ℕ, ◌/◌, ◌<◌}
 use lib.ListN.{length}
 use borrow.Author.Tests.{lt-ltb}
-use Rattle.state.specs.Limits.{front_limit, front_node_limit, points_length, quads_length}
 use Rattle.state.specs.State.{Lengths, lengths}
 use Rattle.state.specs.Outcome.{first_true}
 use Rattle.state.specs.Call.{Left, lengths_of, number_of, job_left, lent}
@@ -42,11 +41,8 @@ refused_1 j l h = rw h
 
 -- ---- the answer of a job in the lent buffers
 
--- it is that of the definition, and sound
+-- it is sound
 module _ (x : Left) (j : Job) (p q n l : ℕ) (call : x ≡ job_call j (lengths_of p q n l)) where
-  pub answer_is : p ≡ points_length → q ≡ quads_length → n ≡ front_node_limit → l ≡ front_limit → x ≡ job_call j lent
-  answer_is e f g k = call ∙ rw (e, f, g, k)
-
   pub answer_sound : lengths x.held ≡ lent → SoundAnswer x
   answer_sound e =
       sound_answer x e

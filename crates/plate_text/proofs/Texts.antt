@@ -1,31 +1,28 @@
--- What `read_job` answers, as `pave_text` goes on from it, and the buffer with zeros behind the text.
+-- What `TextJob::read` answers, as `pave_text` goes on from it, and the buffer with zeros behind the text.
 use mathlib.Core.Path.{◌≡◌, refl, sym, ◌∙◌, ap}
 use mathlib.Core.Bool.{Bool, true, false, ◌||◌}
 use mathlib.Core.List.{List, ◌++◌}
 use mathlib.Core.Option.{none, some, Option-elim}
-use Prim.Native.Nat.{ℕ, ◌-◌, ◌*◌, ◌/◌, ◌<◌, ◌≤◌}
+use Prim.Native.Nat.{ℕ, ◌-◌, ◌/◌, ◌<◌, ◌≤◌}
 use native.Mathlib.Nat.{zero-add, mul-div_cancel}
 use native.Mathlib.Omega.{arith}
 use lib.Dec.{ltb}
-use lib.Ieee.{Float}
-use lib.ListN.{length, take, replicate, length-map, length-append, length-replicate}
+use lib.ListN.{length, replicate, length-map, length-append, length-replicate}
 use lib.Seq.{sets}
 use borrow.Author.Tests.{ltb-true, lt-ltb, le-ltb}
 use Rattle.state.specs.Call.{lent}
 use Rattle.state.specs.State.{joined}
 use Rattle.state.proofs.Stores.{sets-append, sets_all}
-use Rattle.input.specs.Job.{Job, job, input_number, loop_limit, pair_limit}
-use Rattle.input.specs.Defaults.{defaults}
+use Rattle.input.specs.Job.{Job, input_number, loop_limit, pair_limit}
 use Rattle.rules.specs.Calls.{job_call}
 use Rattle.text.specs.Putting.{Put}
-use Rattle.job_text.specs.declared.jobs.JobRead.{JobRead}
 use Rattle.job_text.specs.declared.jobs.TextError.{TextError}
 use Rattle.job_text.specs.declared.jobs.TextError.TheVariants.{Unreadable, TooMany}
-use Rattle.job_text.proofs.Callers.{job_is, job_made, too_many_is, unreadable_is}
+use Rattle.job_text.proofs.Callers.{job_is, too_many_is, unreadable_is}
 use Rattle.std.specs.Prelude.{Ok, Err}
 use Rattle.job_text.specs.Drawing.{Drawing, loops, job_of}
 use Rattle.job_text.specs.Reading.{read_job}
-use Rattle.job_text.specs.Answers.{number_of, too_many, JobReadIs}
+use Rattle.job_text.specs.Answers.{number_of, too_many, job_answer}
 use Rattle.job_text.proofs.Storing.{length-coordinates}
 use Rattle.answer_text.specs.AnswerText.{answer_text, refused_text}
 use Rattle.plate_text.specs.PaveText.{pave_text, text_room, texted, text_call}
@@ -59,15 +56,15 @@ read_some : (t : List ℕ) (d : Drawing) → read_job t ≡ some d → pave_text
 unfolding pave_text Option-elim
 read_some t d e = rw e
 
-module _ (t : List ℕ) (c : List Float) (l : List ℕ) where
-  pub refused : (e : TextError) → JobReadIs t c l (Err e) → refused_text (number_of e) ≡ pave_text t
-  refused Unreadable r = sym (read_none t (unreadable_is t c l r))
-  refused TooMany r = let m = too_many_is t c l r in sym (read_some t m.0 m.1 ∙ refused_1 (job_of m.0) lent (many_1 m.0 m.2))
+module _ (t : List ℕ) where
+  pub refused : (e : TextError) → Err e ≡ job_answer (read_job t) → refused_text (number_of e) ≡ pave_text t
+  refused Unreadable r = sym (read_none t (unreadable_is t r))
+  refused TooMany r = let m = too_many_is t r in sym (read_some t m.0 m.1 ∙ refused_1 (job_of m.0) lent (many_1 m.0 m.2))
 
-  pub answered : (j : JobRead) → JobReadIs t c l (Ok j) → answer_text (job_call (job (take (j.pairs * 2) c) (take j.loops l) j.size defaults) lent) ≡ pave_text t
+  pub answered : (j : Job) → Ok j ≡ job_answer (read_job t) → answer_text (job_call j lent) ≡ pave_text t
   answered j r =
-      let f = job_is t c l j r in
-      ap (λ (x : Job). answer_text (job_call x lent)) (sym (job_made f)) ∙ sym (read_some t f.drawing f.is)
+      let f = job_is t j r in
+      ap (λ (x : Job). answer_text (job_call x lent)) f.job ∙ sym (read_some t f.drawing f.is)
 
 -- ---- the buffer
 

@@ -12,8 +12,8 @@ ghost use Rattle.plate_text.specs.PaveText.{pave_text, text_call, texted};
 
 use answer_text::{put_answer, put_refused};
 use input::Job;
-use job_text::read_job;
-use state::Lent;
+use job_text::TextJob;
+use state::Arrays;
 use text::{Writer, put_zeros};
 
 // The answer of a job, as text.
@@ -23,16 +23,8 @@ fn put_job(w: &mut Writer, job: &Job)
     ensures upper_bound { w.new.at ≤ w.old.at + text_limit }
     ensures same { Same w.old w.new }
 {
-    let mut points = [0.0f64; 8192];
-    let mut quads = [0u16; 16384];
-    let mut front_nodes = [0u16; 2048];
-    let mut front_lengths = [0u16; 16];
-    let mut lent = Lent {
-        points: &mut points,
-        quads: &mut quads,
-        front_nodes: &mut front_nodes,
-        front_lengths: &mut front_lengths,
-    };
+    let mut arrays = Arrays::zeros();
+    let mut lent = arrays.lend();
     let answer = job::job(job, &mut lent);
     put_answer(w, answer, &lent.read());
 }
@@ -43,13 +35,8 @@ fn put_paved(w: &mut Writer, input: &[u8])
     ensures upper_bound { w.new.at ≤ w.old.at + text_limit }
     ensures same { Same w.old w.new }
 {
-    let mut coords = [0.0f64; 4096];
-    let mut loop_lengths = [0u16; 16];
-    match read_job(input, &mut coords, &mut loop_lengths) {
-        Ok(read) => {
-            let job = read.job(&coords, &loop_lengths);
-            put_job(w, &job);
-        }
+    match TextJob::read(input) {
+        Ok(read) => put_job(w, &read.job()),
         Err(error) => put_refused(w, error.number()),
     }
 }

@@ -12,7 +12,7 @@ ghost use Rattle.rules.specs.Row.{next_row, row_number};
 
 use input::Accepted;
 use row_checks::try_row;
-use row_laying::lay_row;
+use row_laying::lay_row_in;
 use state::{Counts, Lent, Refusal};
 
 // A row on front `li` of the state tried. When it stands its points are the first of `row`, and the answer is how many.
@@ -55,7 +55,7 @@ fn row_in<const N: usize>(
     let mut row = [0.0; N];
     let n = try_on(job, lent, counts, li, &mut row)?;
     lent.clear_behind(clean, counts);
-    let after = lay_row(lent, counts, li, &row[..n * 2]);
+    let after = lay_row_in(lent, counts, li, &row[..n * 2]);
     Ok(after)
 }
 

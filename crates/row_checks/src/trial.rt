@@ -16,7 +16,7 @@ use crossing::is_simple;
 use geometry::{FirstPoints, NodePoints, Ring};
 use input::Accepted;
 use rules::Projection;
-use state::{Fronts, Refusal, front_at};
+use state::{Fronts, Refusal, front_at, is_full};
 
 // The projections of a ring's nodes, from the front of `row`; refused when a node does not project. A side's length serves the nodes
 // at both of its ends.
@@ -102,7 +102,7 @@ pub fn try_row(
     if !rest_stands(job, fronts, li, &old, &tried) {
         return Err(Refusal::Row);
     }
-    if 4096 < fronts.points.len() / 2 + n || 4096 < quads + n {
+    if is_full(fronts.points.len() / 2 + n, quads + n) {
         return Err(Refusal::Full);
     }
     Ok(n)

@@ -4,4 +4,4 @@
 mod commit;
 mod laying;
 
-pub use laying::lay_row;
+pub use laying::{lay_row, lay_row_in};

@@ -11,7 +11,8 @@ use planning::Spacing;
 use state::{Refusal, narrow, put_numbers};
 
 // Samples the loops in turn and writes their nodes from the fronts of the lent buffers on; answers how many nodes they have. `buffer`,
-// `lengths` and `spans` are for the work.
+// `lengths` and `spans` are for the work. Three of the lent buffers and no `Lent`: the fourth, the quads, is not touched, and no clause
+// has to say so. The counts so far go from loop to loop.
 fn loops_in_turn(
     job: &Accepted,
     points: &mut [f64],

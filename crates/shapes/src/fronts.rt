@@ -16,6 +16,7 @@ fn put_loops(w: &mut Writer, outline: &Outline)
     ensures same { Same w.old w.new }
 {
     let mut first = 0;
+    // a running place: `scan` would keep it inside a closure
     for n in outline.loop_lengths {
         let n = usize::from(*n);
         put_ring(w, (first..first + n).map(|i| point_at(outline.coords, i)));

@@ -18,22 +18,17 @@ pub fn line(rt: &impl Print, text: &[u8]) {
     let _ = rt.write_all(b"\n");
 }
 
-// The first `n` bytes of a buffer.
-pub fn show_text(rt: &impl Print, out: &[u8], n: usize) {
-    if let Some(text) = out.get(..n) {
-        let _ = rt.write_all(text);
-    }
-}
-
 pub fn show_refused(rt: &impl Print, number: u32) {
     let _ = println!(rt; "refused\t{number}");
 }
 
-// The text of a state, and nothing for one that number 25 refuses, whatever the buffers hold.
+// The text of a state, and nothing for one that number 25 refuses, whatever the buffers hold. That buffers have the lengths of a state
+// is a clause here and in `calls`, and no fact of their types: a call is told of other lengths by number 1.
 fn put_shown(w: &mut Writer, held: &Buffers, counts: Counts)
     requires room { w.old.at + text_limit ≤ length w.old.out.now }
     requires lengths { lengths (held_of held.now counts) ≡ lent }
     ensures put { Wrote w.old (shown (held_of held.now counts)) w.new }
+    ensures upper_bound { w.new.at ≤ w.old.at + text_limit }
     ensures same { Same w.old w.new }
 {
     if held.is_wrong(counts) {
@@ -52,5 +47,5 @@ pub fn show_state(rt: &impl Print, held: &Buffers, counts: Counts)
     };
     put_shown(&mut w, held, counts);
     let n = w.at;
-    show_text(rt, &out, n);
+    let _ = rt.write_all(&out[..n]);
 }

@@ -21,6 +21,7 @@ pub fn put_all<T: Copy>(buffer: &mut [T], at: usize, more: &[T])
     buffer[at..at + more.len()].copy_from_slice(more);
 }
 
+// A quad's four numbers come one by one: closing's quads stand in a crate above, and a row and a fan make theirs for the one call.
 pub fn put_quad(quads: &mut [u16], at: usize, a: u16, b: u16, c: u16, d: u16)
     requires { at + 4 ≤ length quads.old }
     ensures { quads.new ≡ sets quads.old at (a ∷ b ∷ c ∷ d ∷ []) }

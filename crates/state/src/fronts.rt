@@ -7,6 +7,7 @@ use crate::Front;
 use geometry::NodePoints;
 
 // The fronts of a state, one after the other: the points of all nodes, the fronts' nodes, and how many nodes each front has.
+// Who walks over them keeps the place by hand: an iterator of places would be one more type with its laws, for one sum.
 #[derive(Clone, Copy)]
 pub struct Fronts<'a> {
     pub points: &'a [f64],

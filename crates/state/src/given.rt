@@ -9,6 +9,7 @@ ghost use Rattle.state.specs.Given as givens;
 
 use crate::coordinates::wrong_coordinate;
 use crate::fronts::sum_of;
+use crate::limits::is_full;
 use crate::{Buffers, Counts};
 
 // Some number is not below `n`. No test ends the loop, so several are done at a time; `any` takes twice as long.
@@ -75,7 +76,7 @@ fn wrong_counts(front_lengths: &[u16], counts: Counts) -> bool
     ensures within { result ≡ false → (counts.points ≤ point_limit) × (counts.quads ≤ quad_limit) × (counts.fronts ≤ front_limit)
         × (totals.sum_of (take counts.fronts front_lengths.now) ≤ front_node_limit) }
 {
-    if 4096 < counts.points || 4096 < counts.quads || 16 < counts.fronts {
+    if is_full(counts.points, counts.quads) || 16 < counts.fronts {
         return true;
     }
     let lengths = &front_lengths[..counts.fronts];

@@ -3,20 +3,24 @@
 #![tactic(auto)]
 
 mod appending;
+mod arrays;
 mod buffers;
 mod coordinates;
 mod fronts;
 mod given;
 mod held;
 mod lent;
+mod limits;
 mod refusal;
 
 pub use appending::{narrow, put_all, put_numbers, put_quad};
+pub use arrays::Arrays;
 pub use buffers::fill_from;
 pub use coordinates::{outside, wrong_coordinate};
 pub use fronts::{Fronts, front_at, nodes_of, sum_of};
 pub use held::{Buffers, fit_nodes};
 pub use lent::Lent;
+pub use limits::is_full;
 pub use refusal::Refusal;
 
 // The eight counts of document 01; by default none.

@@ -5,6 +5,7 @@ ghost use Rattle.std.specs.Float.{binary64};
 ghost use Rattle.std.specs.Float.Ieee.{to_bits};
 ghost use Rattle.text.specs.Hex.{hex_digit, hex_value, hex_spelled};
 
+// 58 and 71 are the places behind '9' and 'F', as in the definition.
 fn hex_value(d: u8) -> u64
     ensures { (result ≡ hex_value d) × (result < 16) }
 {

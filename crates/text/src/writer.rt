@@ -1,5 +1,7 @@
 // Text written into a lent buffer: the buffer, and the place behind what has been written. Who takes a `Writer` says in two clauses what
-// was put (`Wrote`) and that the buffer is the same one (`Same`): the check finds the second alone.
+// was put (`Wrote`) and that the buffer is the same one (`Same`): the check finds the second alone. How much room it asks for is its own
+// clause, since it differs. Digits are put one by one, and texts byte by byte, and not by `write!`: what a `Display` prints is said of a
+// `String`, which takes memory, and not of a lent buffer.
 ghost use Rattle.std.specs.Prelude.{◌≡◌, [], ◌∷◌, ◌-◌, ◌≤◌, length, replicate};
 ghost use Rattle.std.proofs.lemmas.List.Edits.{sets};
 ghost use Rattle.text.specs.Decimal.{decimal_text};
@@ -83,6 +85,7 @@ impl Writer<'_> {
         ensures same { Same self.old self.new }
     {
         let mut rest = bits;
+        // from the end, as the digits come; the place is needed
         for i in (0..16).rev() {
             self.out[self.at + i] = hex_digit(rest % 16);
             rest /= 16;

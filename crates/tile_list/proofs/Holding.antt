@@ -113,12 +113,12 @@ module _ (l : HeldList) where
   unfolding reading
   same_but_fronts = refl
 
-  others : ((reading b).passes ≡ l.counts.passes_begun) × ((reading b).quads ≡ quads_of l.counts.quads l.quads.now)
+  others : ((reading b).passes ≡ l.counts.passes_begun) × ((reading b).quads ≡ quads_of l.counts.quads l.state.quads.now)
   unfolding reading
   others = (refl, refl)
 
   module _ (h : allowed_held b o ≡ true) where
-    split : (wrong_state b ≡ false) × (wrong_state o ≡ false) × (not (eqb l.loops 0) ≡ true) × (leb l.counts.passes_begun pass_limit ≡ true) × (every_quad four_different (quads_of l.counts.quads l.quads.now) ≡ true)
+    split : (wrong_state b ≡ false) × (wrong_state o ≡ false) × (not (eqb l.loops 0) ≡ true) × (leb l.counts.passes_begun pass_limit ≡ true) × (every_quad four_different (quads_of l.counts.quads l.state.quads.now) ≡ true)
     unfolding allowed_held
     split =
         let d = both_true _ _ h in

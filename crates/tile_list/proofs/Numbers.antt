@@ -59,7 +59,7 @@ module _ (l : HeldList) (a : allowed_held (state_in l) (loops_in l) ≡ true) wh
   n = l.counts.quads
 
   abbrev q : List ℕ
-  q = l.quads.now
+  q = l.state.quads.now
 
   pub quads_within : n * 4 ≤ length q
   quads_within = let x = sb.quads in let k = sb.quads_long in omega arith
@@ -76,11 +76,11 @@ module _ (l : HeldList) (a : allowed_held (state_in l) (loops_in l) ≡ true) wh
     pub sum_quads : sum_of (take n l.quad_lengths.now) ≡ n * 4
     sum_quads = ap sum_of fours ∙ sum_fours (quads_of n q) ∙ ap (λ (x : ℕ). x * 4) (length-quads_of n q)
 
-    pub rings_are : cut (take l.loops l.loop_lengths.now) l.loop_nodes.now ++ cut (take n l.quad_lengths.now) q ++ cut (take l.counts.fronts l.front_lengths.now) l.front_nodes.now ≡ rings (list_of l)
+    pub rings_are : cut (take l.loops l.loop_lengths.now) l.loop_nodes.now ++ cut (take n l.quad_lengths.now) q ++ cut (take l.counts.fronts l.state.front_lengths.now) l.state.front_nodes.now ≡ rings (list_of l)
     unfolding reading
     rings_are =
-        append_assoc (cut (take l.loops l.loop_lengths.now) l.loop_nodes.now) (cut (take n l.quad_lengths.now) q) (cut (take l.counts.fronts l.front_lengths.now) l.front_nodes.now)
-        ∙ ap (λ x. cut (take l.loops l.loop_lengths.now) l.loop_nodes.now ++ (x ++ cut (take l.counts.fronts l.front_lengths.now) l.front_nodes.now)) (ap (λ x. cut x q) fours ∙ cut_fours n q quads_within)
+        append_assoc (cut (take l.loops l.loop_lengths.now) l.loop_nodes.now) (cut (take n l.quad_lengths.now) q) (cut (take l.counts.fronts l.state.front_lengths.now) l.state.front_nodes.now)
+        ∙ ap (λ x. cut (take l.loops l.loop_lengths.now) l.loop_nodes.now ++ (x ++ cut (take l.counts.fronts l.state.front_lengths.now) l.state.front_nodes.now)) (ap (λ x. cut x q) fours ∙ cut_fours n q quads_within)
 
 -- ---- the number
 
@@ -99,7 +99,7 @@ module _ (l : TileList) where
     none_found e = rw (t, e)
 
 -- the corners are tested on the points and quads in use
-pub corners_are : (l : HeldList) → l.counts.quads * 4 ≤ length l.quads.now
-    → every_quad (quad_passes default_limit (take (l.counts.points * 2) l.points.now)) (all_quads (take (l.counts.quads * 4) l.quads.now)) ≡ every_quad (quad_passes default_limit (list_of l).state.points) (list_of l).state.quads
+pub corners_are : (l : HeldList) → l.counts.quads * 4 ≤ length l.state.quads.now
+    → every_quad (quad_passes default_limit (take (l.counts.points * 2) l.state.points.now)) (all_quads (take (l.counts.quads * 4) l.state.quads.now)) ≡ every_quad (quad_passes default_limit (list_of l).state.points) (list_of l).state.quads
 unfolding reading
-corners_are l h = ap (every_quad (quad_passes default_limit (take (l.counts.points * 2) l.points.now))) (sym (quads_begin l.counts.quads l.quads.now h))
+corners_are l h = ap (every_quad (quad_passes default_limit (take (l.counts.points * 2) l.state.points.now))) (sym (quads_begin l.counts.quads l.state.quads.now h))

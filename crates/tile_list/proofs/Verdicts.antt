@@ -65,11 +65,11 @@ module _ (t : List ℕ) (v : HeldList) where
   abbrev o : Held
   o = loops_in v
 
-  points_fit : v.counts.points * 2 ≤ length v.points.now → F64s (reading b).points
+  points_fit : v.counts.points * 2 ≤ length v.state.points.now → F64s (reading b).points
   unfolding reading
   points_fit h i l =
-      let e = length-take-le (v.counts.points * 2) v.points.now h in
-      rw (get_or-take (v.counts.points * 2) v.points.now i (decimal 0 0) (omega arith), get_or_other v.points.now i (decimal 0 0) nan (omega arith)) (v.points_fit i)
+      let e = length-take-le (v.counts.points * 2) v.state.points.now h in
+      rw (get_or-take (v.counts.points * 2) v.state.points.now i (decimal 0 0) (omega arith), get_or_other v.state.points.now i (decimal 0 0) nan (omega arith)) (v.points_fit i)
 
   module _ (is : ReadFrom t v) where
     pub record Stored (l : TileList) : Type 0 where
@@ -120,7 +120,7 @@ module _ (t : List ℕ) (v : HeldList) where
         let count : v.counts.quads ≡ length l.state.quads = ap (λ (x : Held). x.counts.quads) s.state in
         front_part no_lists.quad_lengths (map length (map quad_nodes l.state.quads)) v.quad_lengths.now v.counts.quads (omega (arith, length-replicate {A = ℕ} quad_limit 0)) (omega arith) s.quad_lengths
 
-    pub fours_read : read_list t ≡ some (list_of v) → take v.counts.quads v.quad_lengths.now ≡ map length (map quad_nodes (quads_of v.counts.quads v.quads.now))
+    pub fours_read : read_list t ≡ some (list_of v) → take v.counts.quads v.quad_lengths.now ≡ map length (map quad_nodes (quads_of v.counts.quads v.state.quads.now))
     unfolding reading
     fours_read e = fours_of (list_of v) (stored (list_of v) e)
 

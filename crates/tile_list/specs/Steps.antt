@@ -7,6 +7,7 @@ use Rattle.state.specs.Given.{wrong_state}
 use Rattle.float.specs.Helpers.{decimal}
 use Rattle.state.specs.Limits.{front_limit, front_node_limit, points_length, quads_length, quad_limit}
 use Rattle.state.specs.Call.{held}
+use Rattle.state.specs.Lent.{held_of}
 use Rattle.tile_list.specs.declared.error.ListError.{ListError}
 use Rattle.tile_list.specs.declared.error.ListError.TheVariants.{Unreadable, WrongPair, WrongCorner}
 use Rattle.tile_list.specs.declared.list.HeldList.{HeldList}
@@ -50,10 +51,10 @@ list_in b o = record { loops = (reading o).fronts; state = reading b }
 -- ---- of the value that has the buffers
 
 abbrev pub state_in : HeldList → Held
-state_in l = held l.points.now l.quads.now l.front_nodes.now l.front_lengths.now l.counts
+state_in l = held_of l.state l.counts
 
 abbrev pub loops_in : HeldList → Held
-loops_in l = held l.points.now l.quads.now l.loop_nodes.now l.loop_lengths.now (with_loops l.counts l.loops)
+loops_in l = held l.state.points.now l.state.quads.now l.loop_nodes.now l.loop_lengths.now (with_loops l.counts l.loops)
 
 abbrev pub list_of : HeldList → TileList
 list_of l = list_in (state_in l) (loops_in l)
@@ -74,7 +75,7 @@ list_read loops counts = record { loops = loops; counts = counts }
 -- a text was read into the buffers, where there was nothing before
 abbrev pub ReadFrom : List ℕ → HeldList → Type 0
 ReadFrom t l =
-    ListReadIs t no_lists (lists l.loop_nodes.now l.loop_lengths.now l.points.now l.quads.now l.quad_lengths.now l.front_nodes.now l.front_lengths.now) (list_read l.loops l.counts)
+    ListReadIs t no_lists (lists l.loop_nodes.now l.loop_lengths.now l.state.points.now l.state.quads.now l.quad_lengths.now l.state.front_nodes.now l.state.front_lengths.now) (list_read l.loops l.counts)
 
 -- what the test of a text answers: none, or the list in the buffers, whose writing then stands at the front of `out`
 pub record ReadableIs (t out : List ℕ) (l : TileList) (r : Bool) : Type 0 where

@@ -2,23 +2,19 @@
 ghost use Rattle.std.specs.Prelude.{◌≡◌};
 ghost use Rattle.tile_list.specs.Steps.{number_of};
 
-// A text that is no list's, a pair of nodes that is counted neither never nor twice, a corner that does not pass.
+// Each error with the number that refuses the list: a text that is no list's, a pair of nodes that is counted neither never nor twice, a corner that does not pass.
 #[derive(Clone, Copy, PartialEq, Eq, Debug)]
 pub enum ListError {
-    Unreadable,
-    WrongPair,
-    WrongCorner,
+    Unreadable = 30,
+    WrongPair = 31,
+    WrongCorner = 32,
 }
 
 impl ListError {
-    // The number that refuses the list.
+    // as: Rust has no From between an enum and its numbers
     pub fn number(self) -> u32
         ensures { result ≡ number_of self }
     {
-        match self {
-            ListError::Unreadable => 30,
-            ListError::WrongPair => 31,
-            ListError::WrongCorner => 32,
-        }
+        self as u32
     }
 }

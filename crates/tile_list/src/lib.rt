@@ -18,7 +18,7 @@ ghost use Rattle.tile_list.specs.Steps.{ReadFrom, Stands, number_of};
 use crate::error::ListError;
 use crate::list::{HeldList, fit_points};
 use answer_text::put_refused;
-use state::fit_nodes;
+use state::{Buffers, fit_nodes};
 use text::{Writer, put_zeros};
 use tile_text::{ListBuffers, read_list};
 
@@ -73,11 +73,13 @@ fn put_rechecked(out: &mut [u8], input: &[u8]) -> usize
     let list = HeldList {
         loop_nodes: fit_nodes(&loop_nodes),
         loop_lengths: &loop_lengths,
-        points: fit_points(&points),
-        quads: &quads,
+        state: Buffers {
+            points: fit_points(&points),
+            quads: &quads,
+            front_nodes: &front_nodes,
+            front_lengths: &front_lengths,
+        },
         quad_lengths: &quad_lengths,
-        front_nodes: &front_nodes,
-        front_lengths: &front_lengths,
         loops: read.loops,
         counts: read.counts,
     };

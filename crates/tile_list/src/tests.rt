@@ -11,13 +11,7 @@ impl HeldList<'_> {
         ensures { result ≡ allowed_held (state_in self.now) (loops_in self.now) }
     {
         let counts = self.counts;
-        let state = Buffers {
-            points: self.points,
-            quads: self.quads,
-            front_nodes: self.front_nodes,
-            front_lengths: self.front_lengths,
-        };
-        if state.is_wrong(counts) {
+        if self.state.is_wrong(counts) {
             return false;
         }
         let others = Counts {
@@ -27,7 +21,7 @@ impl HeldList<'_> {
         let loops = Buffers {
             front_nodes: self.loop_nodes,
             front_lengths: self.loop_lengths,
-            ..state
+            ..self.state
         };
         if loops.is_wrong(others) {
             return false;
@@ -38,6 +32,6 @@ impl HeldList<'_> {
         if 64 < counts.passes_begun {
             return false;
         }
-        all_different(&self.quads[..counts.quads * 4])
+        all_different(&self.state.quads[..counts.quads * 4])
     }
 }

@@ -26,7 +26,7 @@ impl HeldList<'_> {
     // The pairs of nodes, then the corners.
     pub fn check(&self) -> Result<(), ListError>
         requires allowed { allowed_held (state_in self.now) (loops_in self.now) ≡ true }
-        requires fours { take self.now.counts.quads self.now.quad_lengths.now ≡ map length (map quad_nodes (quads_of self.now.counts.quads self.now.quads.now)) }
+        requires fours { take self.now.counts.quads self.now.quad_lengths.now ≡ map length (map quad_nodes (quads_of self.now.counts.quads self.now.state.quads.now)) }
         ensures { verdict_number result ≡ list_number (list_of self.now) }
     {
         let counts = self.counts;
@@ -35,19 +35,19 @@ impl HeldList<'_> {
             lengths: &self.loop_lengths[..self.loops],
         };
         let quads = Rings {
-            nodes: self.quads,
+            nodes: self.state.quads,
             lengths: &self.quad_lengths[..counts.quads],
         };
         let fronts = Rings {
-            nodes: self.front_nodes,
-            lengths: &self.front_lengths[..counts.fronts],
+            nodes: self.state.front_nodes,
+            lengths: &self.state.front_lengths[..counts.fronts],
         };
         if !all_twice(&loops, &quads, &fronts) {
             return Err(ListError::WrongPair);
         }
         if !all_pass(
-            &self.points[..counts.points * 2],
-            &self.quads[..counts.quads * 4],
+            &self.state.points[..counts.points * 2],
+            &self.state.quads[..counts.quads * 4],
         ) {
             return Err(ListError::WrongCorner);
         }

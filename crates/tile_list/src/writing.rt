@@ -7,7 +7,6 @@ ghost use Rattle.tile_list.specs.Steps.{allowed_held, list_of, loops_in, state_i
 
 use crate::list::HeldList;
 use answer_text::{put_held, put_rings};
-use state::Buffers;
 use text::Writer;
 
 impl HeldList<'_> {
@@ -24,13 +23,7 @@ impl HeldList<'_> {
             self.loop_nodes,
             &self.loop_lengths[..self.loops],
         );
-        let state = Buffers {
-            points: self.points,
-            quads: self.quads,
-            front_nodes: self.front_nodes,
-            front_lengths: self.front_lengths,
-        };
-        put_held(&mut w, &state, self.counts);
+        put_held(&mut w, &self.state, self.counts);
         w.at
     }
 }

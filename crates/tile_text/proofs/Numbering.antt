@@ -12,7 +12,6 @@ use Rattle.text.specs.Decimal.{decimal_text, natural_of}
 use Rattle.text.specs.Number.{number_in}
 use Rattle.std.specs.Prelude as rust
 use Rattle.std.specs.Prelude.{Some, None}
-use Rattle.std.specs.Option.{unwrap_or}
 use Rattle.text.specs.Fields.{ends_field, field, after_field, field_end}
 use Rattle.text.proofs.FieldLaws.{field_at, after_at, end_within}
 use Rattle.text.proofs.Writings.{natural_back, field_number, after_number}
@@ -27,8 +26,8 @@ module _ (f : List ℕ) where
   is_number : (n : ℕ) → n < 65536 → f ≡ decimal_text n → natural_of 65535 f ≡ some n
   is_number n h w = rw w (natural_back 65535 n (omega arith) (omega arith))
 
-  pub number_is : (o : rust.Option ℕ) → number_in o ≡ natural_of 65535 f → (n : ℕ) → n < 65536 → f ≡ decimal_text n → unwrap_or o 0 ≡ n
-  number_is (Some v) e n h w = let b = is_number n h w in cc
+  pub number_is : (o : rust.Option ℕ) → number_in o ≡ natural_of 65535 f → (n : ℕ) → n < 65536 → f ≡ decimal_text n → o ≡ Some n
+  number_is (Some v) e n h w = let b = is_number n h w in let v : v ≡ n = cc in rw v
   number_is None e n h w = let b = is_number n h w in let z : ◌≡◌ {A = ℕ} 0 1 = cc in absurd (omega arith)
 
 -- ---- the first number of a text of numbers
@@ -94,7 +93,7 @@ module _ (t : List ℕ) (at from : ℕ) (old : List ℕ) where
   module _ (new : List ℕ) (next count : ℕ) (l : Left t at from old new next count) where
     -- a number v is stored
     module _ (h : next < length t) (b : get_or t next 0 ≡ tab) (end v : ℕ) (ends : end ≡ field_end t (next + 1)) (is : (n : ℕ) → n < 65536 → slice (next + 1) end t ≡ decimal_text n → v ≡ n)
-        (newer : List ℕ) (e : v < 65536 → newer ≡ set new (from + count) v) where
+        (newer : List ℕ) (e : newer ≡ set new (from + count) v) where
       one_less : (ns rest : List ℕ) → Rest t from old new next count ns rest → Rest t from old newer end (count + 1) ns rest
       unfolding numbers_text
       one_less ns rest r = by r.left r.text r.counted r.stored r.small
@@ -107,7 +106,7 @@ module _ (t : List ℕ) (at from : ℕ) (old : List ℕ) where
               let g = small_first m ms u in
               let q : v ≡ m = is m g f in
               let k : from + (count + 1) ≡ suc (from + count) = omega arith in
-              record { left = ms; text = rw ends (number_behind t next m ms rest w); counted = omega arith; stored = rw (k, e (omega arith), q) s; small = small_rest m ms u }
+              record { left = ms; text = rw ends (number_behind t next m ms rest w); counted = omega arith; stored = rw (k, e, q) s; small = small_rest m ms u }
 
       pub left_step : Left t at from old newer end (count + 1)
       left_step =

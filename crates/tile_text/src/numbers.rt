@@ -1,27 +1,19 @@
 // Numbers behind tabs.
-ghost use Rattle.std.specs.Prelude.{◌≡◌, ℕ, ◌≤◌, ◌<◌, length, set};
+ghost use Rattle.std.specs.Prelude.{◌≡◌, ℕ, ◌≤◌, ◌<◌, length};
 ghost use Rattle.std.proofs.Math.Seq.{slice};
 ghost use Rattle.text.specs.Decimal.{decimal_text};
 ghost use Rattle.tile_text.specs.Fields.{NumbersReadIs};
 
-use text::{Read, field_end, natural};
+use text::{Read, field_end, natural, store};
 
 // The number that the bytes from `at` up to `end` are the writing of, or 0.
-fn number_in(text: &[u8], at: usize, end: usize) -> usize
+fn number_in(text: &[u8], at: usize, end: usize) -> u16
     requires { (at ≤ end) × (end ≤ length text.now) }
     ensures { (n : ℕ) → n < 65536 → slice at end text.now ≡ decimal_text n → result ≡ n }
 {
-    // as: Rust has no From between u32 and usize
-    natural(text, at, end, 65535).unwrap_or(0) as usize
-}
-
-// A number below 65,536, stored at place `i` where there is room.
-pub fn store(nodes: &mut [u16], i: usize, n: usize)
-    ensures { n < 65536 → nodes.new ≡ set nodes.old i n }
-{
-    if let Ok(n) = u16::try_from(n) {
-        text::store(nodes, i, n);
-    }
+    natural(text, at, end, 65535)
+        .and_then(|n| u16::try_from(n).ok())
+        .unwrap_or(0)
 }
 
 // Numbers behind tabs from `at` on, as long as they come, stored from place `from` on.

@@ -24,7 +24,7 @@ pub fn read_points(text: &[u8], at: usize, points: &mut [f64]) -> Read<usize>
 {
     let mut next = at;
     let mut count = 0usize;
-    // by the place behind each line, as in the other lines
+    // by the place behind each line: chunks of 36 bytes would go on into the lines behind the points, which have other lengths
     while 36 <= text.len() - next {
         if text[next] != b'p' {
             return Read { value: count, next };

@@ -2,8 +2,8 @@
 ghost use Rattle.std.specs.Prelude.{◌≡◌, ◌+◌, ◌≤◌, ◌<◌, length};
 ghost use Rattle.tile_text.specs.Fields.{RingsReadIs};
 
-use crate::numbers::{read_numbers, store};
-use text::Read;
+use crate::numbers::read_numbers;
+use text::{Read, store};
 
 // The place behind a line's end.
 pub fn behind_end(text: &[u8], at: usize) -> usize
@@ -33,7 +33,7 @@ pub fn read_rings(
             return Read { value: count, next };
         }
         let line = read_numbers(text, next + 1, nodes, stored);
-        store(lengths, count, line.value);
+        store(lengths, count, u16::try_from(line.value).unwrap_or(0));
         stored += line.value;
         count += 1;
         next = behind_end(text, line.next);

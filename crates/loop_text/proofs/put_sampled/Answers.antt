@@ -1,5 +1,5 @@
 -- `loop_text::put_sampled` meets its contract.
-use mathlib.Core.Path.{refl, ◌∙◌, ap}
+use mathlib.Core.Path.{◌∙◌, ap}
 use native.Mathlib.Omega.{arith}
 use lib.Seq.{length-take-le}
 use Rattle.state.specs.State.{no_counts}
@@ -8,7 +8,7 @@ use Rattle.state.specs.Refusals.{answered}
 use Rattle.state.specs.Sound.{Sound}
 use Rattle.text.proofs.Midst.{put_same}
 use Rattle.loop_text.specs.SampledText.{loop_lines}
-use Rattle.loop_text.proofs.Sampling.{same_call, done_sound, done_lines, refused_lines}
+use Rattle.loop_text.proofs.Sampling.{done_sound, done_lines, refused_lines}
 use Rattle.loop_text.proofs.put_sampled.Goals as goal
 
 pub fronts-loops-requires : goal.fronts-loops-requires
@@ -26,10 +26,10 @@ put_lines-requires c =
 
 pub returns-in-Ok-clause-put : goal.returns-in-Ok-clause-put
 returns-in-Ok-clause-put c =
-    let same = same_call _ _ _ _ _ _ _ _ _ _ c.sample.ensures.left refl refl refl refl in
+    let same = rw c.lend-lent.ensures.long at c.sample.ensures.left in
     put_same (done_lines _ _ _ _ _ c.in-Ok.counts (ap answered c.in-Ok.is) ∙ ap loop_lines same) (rw (c.fronts-loops.ensures.lengths, c.fronts-loops.ensures.nodes) at c.put_lines.ensures.put)
 
 pub returns-in-Err-clause-put : goal.returns-in-Err-clause-put
 returns-in-Err-clause-put c =
-    let same = same_call _ _ _ _ _ _ _ _ _ _ c.sample.ensures.left refl refl refl refl in
+    let same = rw c.lend-lent.ensures.long at c.sample.ensures.left in
     put_same (refused_lines _ (held_in c.sample.new.lent no_counts) _ (ap answered c.in-Err.is) ∙ ap loop_lines same) (rw c.number.ensures at c.put_refused.ensures.put)

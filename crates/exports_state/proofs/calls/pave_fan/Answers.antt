@@ -11,13 +11,13 @@ use Rattle.exports_counts.specs.Calls.{options_of}
 use Rattle.exports_counts.proofs.Slices.{state_short, state_answered}
 use Rattle.exports_state.proofs.calls.pave_fan.Goals as goal
 
-pub returns-then-counts-ne8 : goal.returns-then-counts-ne8
-returns-then-counts-ne8 c =
+pub returns-in_default : goal.returns-in_default
+returns-in_default c =
     let call : Options → Held → Left = λ o. fan_call (job c.args.coords.now c.args.loop_lengths.now c.args.h o) in
     let options : Options = options_of c.args.corner_margin c.args.min_edge_fraction c.args.front_gap c.args.max_row_rounds c.args.seam c.args.corner_limit in
-    state_short call options _ refl _ _ _ _ _ c.if-counts-ne8.true
+    state_short call options _ refl _ _ _ _ _ c.in_default.ensures.cases
 
 pub returns : goal.returns
 returns c =
     let call : Options → Held → Left = λ o. fan_call (job c.args.coords.now c.args.loop_lengths.now c.args.h o) in
-    state_answered call _ _ c.options_of-options.ensures _ _ _ _ _ _ _ _ _ c.if-counts-ne8.false _ c.counts_of-before.ensures (answered c.fan-answer.result) (grind arith) c.put_answer.ensures
+    state_answered call _ _ c.options_of-options.ensures _ _ _ _ _ _ _ _ _ c.in-Some.ensures.cases.long _ (rw c.in-Some.ensures.cases.same at c.counts_of-before.ensures) (answered c.fan-answer.result) (grind arith) c.put_answer.ensures

@@ -1,4 +1,4 @@
-use mathlib.Core.Path.{◌≡◌}
+use mathlib.Core.Path.{◌≡◌, sym, ◌∙◌}
 use mathlib.Core.Bool.{false, ◌||◌}
 use Prim.Native.Nat.{ℕ, ◌%◌, ◌≤◌}
 use borrow.Author.Tests.{lt-ltb, le-ltb, eq-eqb, ne_eqb}
@@ -8,14 +8,11 @@ use Rattle.float.proofs.Literals.{zero_is}
 use Rattle.geometry.specs.Domain.{rings}
 use Rattle.fan_search.proofs.Deciding.{wrong_front, no_clearance, too_many, one_fails, all_stand}
 use Rattle.fan_search.proofs.trial.try_fan.Goals as goal
-use Rattle.fan_search.proofs.trial.try_fan.Goals.{then-n-lt4-via-then-n-lt4, then-n-lt4-via-else-n-lt4+then-n-eq1, then-not-is_finite-via-then-not-is_finite, then-not-is_finite-via-else-not-is_finite+then-clearance, then-front-gt4096-via-then-front-gt4096, then-front-gt4096-via-else-front-gt4096+then-quads-n-gt4096}
+use Rattle.fan_search.proofs.trial.try_fan.Goals.{then-n-lt4-via-then-n-lt4, then-n-lt4-via-else-n-lt4+then-n-eq1, then-not-is_finite-via-then-not-is_finite, then-not-is_finite-via-else-not-is_finite+then-clearance}
 
 -- both tests fail
 right : (n : ℕ) → 4 ≤ n → (n % 2 ≡ 1 → ⊥) → (ltb n 4 || eqb (n % 2) 1) ≡ false
 right n h g = rw (le-ltb _ _ h, ne_eqb _ 1 g)
-
-room : (l m p q : ℕ) → p ≤ l → q ≤ m → (ltb l p || ltb m q) ≡ false
-room l m p q h g = rw (le-ltb _ _ h, le-ltb _ _ g)
 
 pub returns-then-n-lt4 : goal.returns-then-n-lt4
 returns-then-n-lt4 c =
@@ -35,23 +32,20 @@ returns-then-not-is_finite c =
       | then-not-is_finite-via-else-not-is_finite+then-clearance w ↦ rw (w.if-not-is_finite.false, rw zero_is at w.if-clearance.true)
     ])
 
-pub returns-then-front-gt4096 : goal.returns-then-front-gt4096
-returns-then-front-gt4096 c =
+pub returns-then-is_full : goal.returns-then-is_full
+returns-then-is_full c =
     let loops = rings c.args.outline.now.coords.now c.args.outline.now.loop_lengths.now in
     let front = c.args.front.now in
-    too_many c.args.limit loops front.pts.now front.nodes.now c.args.quads (right _ c.if-n-lt4.false c.if-n-eq1.false) c.centre_of-clearance.result c.centre_of-clearance.ensures _ c.is_finite.ensures (rw (c.if-not-is_finite.false, rw zero_is at c.if-clearance.false)) (elim c.then-front-gt4096.branch [
-      | then-front-gt4096-via-then-front-gt4096 w ↦ rw (lt-ltb _ _ w.if-front-gt4096.true)
-      | then-front-gt4096-via-else-front-gt4096+then-quads-n-gt4096 w ↦ rw (le-ltb _ _ w.if-front-gt4096.false, lt-ltb _ _ w.if-quads-n-gt4096.true)
-    ])
+    too_many c.args.limit loops front.pts.now front.nodes.now c.args.quads (right _ c.if-n-lt4.false c.if-n-eq1.false) c.centre_of-clearance.result c.centre_of-clearance.ensures _ c.is_finite.ensures (rw (c.if-not-is_finite.false, rw zero_is at c.if-clearance.false)) (sym c.is_full.ensures ∙ c.if-is_full.true)
 
 pub returns-then-not-all_pass : goal.returns-then-not-all_pass
 returns-then-not-all_pass c =
     let loops = rings c.args.outline.now.coords.now c.args.outline.now.loop_lengths.now in
     let front = c.args.front.now in
-    one_fails c.args.limit loops front.pts.now front.nodes.now c.args.quads (right _ c.if-n-lt4.false c.if-n-eq1.false) c.centre_of-clearance.result c.centre_of-clearance.ensures _ c.is_finite.ensures (rw (c.if-not-is_finite.false, rw zero_is at c.if-clearance.false)) (room _ _ _ _ c.if-front-gt4096.false c.if-quads-n-gt4096.false) _ c.all_pass.ensures c.if-not-all_pass.true
+    one_fails c.args.limit loops front.pts.now front.nodes.now c.args.quads (right _ c.if-n-lt4.false c.if-n-eq1.false) c.centre_of-clearance.result c.centre_of-clearance.ensures _ c.is_finite.ensures (rw (c.if-not-is_finite.false, rw zero_is at c.if-clearance.false)) (sym c.is_full.ensures ∙ c.if-is_full.false) _ c.all_pass.ensures c.if-not-all_pass.true
 
 pub returns : goal.returns
 returns c =
     let loops = rings c.args.outline.now.coords.now c.args.outline.now.loop_lengths.now in
     let front = c.args.front.now in
-    all_stand c.args.limit loops front.pts.now front.nodes.now c.args.quads (right _ c.if-n-lt4.false c.if-n-eq1.false) c.centre_of-clearance.result c.centre_of-clearance.ensures _ c.is_finite.ensures (rw (c.if-not-is_finite.false, rw zero_is at c.if-clearance.false)) (room _ _ _ _ c.if-front-gt4096.false c.if-quads-n-gt4096.false) _ c.all_pass.ensures c.if-not-all_pass.false
+    all_stand c.args.limit loops front.pts.now front.nodes.now c.args.quads (right _ c.if-n-lt4.false c.if-n-eq1.false) c.centre_of-clearance.result c.centre_of-clearance.ensures _ c.is_finite.ensures (rw (c.if-not-is_finite.false, rw zero_is at c.if-clearance.false)) (sym c.is_full.ensures ∙ c.if-is_full.false) _ c.all_pass.ensures c.if-not-all_pass.false

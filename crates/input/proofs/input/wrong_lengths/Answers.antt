@@ -3,18 +3,18 @@ use borrow.Author.Tests.{eq-eqb, ne_eqb}
 use Rattle.input.specs.Job.{wrong_lengths}
 use Rattle.input.proofs.input.wrong_lengths.Goals as goal
 
-pub returns-then-lent-ne8192 : goal.returns-then-lent-ne8192
+pub returns-then-points-ne8192 : goal.returns-then-points-ne8192
 unfolding wrong_lengths
-returns-then-lent-ne8192 c = simp (ne_eqb _ _ c.if-lent-ne8192.true)
+returns-then-points-ne8192 c = simp (ne_eqb _ _ c.if-points-ne8192.true)
 
-pub returns-then-lent-ne16384 : goal.returns-then-lent-ne16384
+pub returns-then-quads-ne16384 : goal.returns-then-quads-ne16384
 unfolding wrong_lengths
-returns-then-lent-ne16384 c = simp (eq-eqb _ _ c.if-lent-ne8192.false, ne_eqb _ _ c.if-lent-ne16384.true)
+returns-then-quads-ne16384 c = simp (eq-eqb _ _ c.if-points-ne8192.false, ne_eqb _ _ c.if-quads-ne16384.true)
 
-pub returns-then-lent-ne2048 : goal.returns-then-lent-ne2048
+pub returns-then-front_nodes-ne2048 : goal.returns-then-front_nodes-ne2048
 unfolding wrong_lengths
-returns-then-lent-ne2048 c = simp (eq-eqb _ _ c.if-lent-ne8192.false, eq-eqb _ _ c.if-lent-ne16384.false, ne_eqb _ _ c.if-lent-ne2048.true)
+returns-then-front_nodes-ne2048 c = simp (eq-eqb _ _ c.if-points-ne8192.false, eq-eqb _ _ c.if-quads-ne16384.false, ne_eqb _ _ c.if-front_nodes-ne2048.true)
 
 pub returns : goal.returns
 unfolding wrong_lengths
-returns c = simp (eq-eqb _ _ c.if-lent-ne8192.false, eq-eqb _ _ c.if-lent-ne16384.false, eq-eqb _ _ c.if-lent-ne2048.false)
+returns c = simp (eq-eqb _ _ c.if-points-ne8192.false, eq-eqb _ _ c.if-quads-ne16384.false, eq-eqb _ _ c.if-front_nodes-ne2048.false)

@@ -1,5 +1,5 @@
 -- `picture::drawing::put_job` meets its contract.
-use mathlib.Core.Path.{◌≡◌, refl, ◌∙◌, ap}
+use mathlib.Core.Path.{◌≡◌, ◌∙◌, ap}
 use native.Mathlib.Omega.{arith}
 use Rattle.state.proofs.Lending.{lent_long}
 use Rattle.state.specs.Call.{lent}
@@ -8,7 +8,7 @@ use Rattle.input.specs.Job.{job_of}
 use Rattle.captions.proofs.Lengths.{words_length}
 use Rattle.picture.specs.Plates.{answer_picture}
 use Rattle.text.proofs.Midst.{put_same}
-use Rattle.plate_text.proofs.Answering.{answer_is, answer_sound}
+use Rattle.plate_text.proofs.Answering.{answer_sound}
 use Rattle.picture.proofs.Texts.{no_point, some-point}
 use Rattle.picture.proofs.drawing.put_job.Goals as goal
 
@@ -30,11 +30,11 @@ returns-then-job-eq0 c =
 
 pub put_answer-requires-clause-sound_answer : goal.put_answer-requires-clause-sound_answer
 put_answer-requires-clause-sound_answer c =
-    let long : lengths_in c.job-answer.new.lent ≡ lent = lent_long c.job-answer.ensures.same in
+    let long : lengths_in c.job-answer.new.lent ≡ lent = lent_long c.job-answer.ensures.same ∙ c.lend-lent.ensures.long in
     answer_sound _ _ _ _ _ _ c.job-answer.ensures.left long
 
 pub returns-clause-put : goal.returns-clause-put
 returns-clause-put c =
     let j = job_of c.args.job.now in
-    let same = answer_is _ _ _ _ _ _ c.job-answer.ensures.left refl refl refl refl in
+    let same = rw c.lend-lent.ensures.long at c.job-answer.ensures.left in
     put_same (ap (answer_picture j) same ∙ some-point j c.if-job-eq0.false) c.put_answer.ensures.put

@@ -15,31 +15,39 @@ returns-then-length c =
     let turned_ring : Ring = read_ring c.args.ring in
     short_side c.args.spacing.h c.args.spacing.corner_margin turned_ring c.args.i c.args.at _ _ c.args.points.now _ c.requires.n_bound.1 (rw tiny_is at c.if-length.true) c.at-a.ensures c.put_point.ensures
 
-pub parts_of-k-requires : goal.parts_of-k-requires
-parts_of-k-requires c =
+pub parts_of-parts-requires : goal.parts_of-parts-requires
+parts_of-parts-requires c =
     let turned_ring : Ring = read_ring c.args.ring in
     let inner-at : ℕ = plans.inner c.args.spacing.h c.args.spacing.corner_margin turned_ring c.args.i in
     let inner-found : c.inner_of.result ≡ inner-at = (inner_is c.args.spacing.h c.args.spacing.corner_margin turned_ring c.args.i _ _ c.requires.n_bound.2 c.inner_of.ensures) in
     omega (arith, inner-found, c.requires.i_value, c.requires.i_bound.0)
 
-pub returns-then-k-eq0 : goal.returns-then-k-eq0
-returns-then-k-eq0 c =
+pub returns-then-parts-eq0 : goal.returns-then-parts-eq0
+returns-then-parts-eq0 c =
     let turned_ring : Ring = read_ring c.args.ring in
     let inner-at : ℕ = plans.inner c.args.spacing.h c.args.spacing.corner_margin turned_ring c.args.i in
     let parts_at : ℕ = plans.parts c.args.spacing.h c.args.spacing.corner_margin turned_ring c.args.i in
     let inner-found : c.inner_of.result ≡ inner-at = (inner_is c.args.spacing.h c.args.spacing.corner_margin turned_ring c.args.i _ _ c.requires.n_bound.2 c.inner_of.ensures) in
-    let parts-found : c.parts_of-k.result ≡ parts_at = (omega (arith, c.parts_of-k.ensures, inner-found, c.requires.i_value)) in
-    bare_side c.args.spacing.h c.args.spacing.corner_margin turned_ring c.args.i c.args.at _ _ _ c.args.points.now _ c.requires.n_bound.1 (rw tiny_is at c.if-length.false) parts-found c.if-k-eq0.true c.at-a.ensures c.put_point.ensures
+    let parts-found : c.parts_of-parts.result ≡ parts_at = (omega (arith, c.parts_of-parts.ensures, inner-found, c.requires.i_value)) in
+    bare_side c.args.spacing.h c.args.spacing.corner_margin turned_ring c.args.i c.args.at _ _ _ c.args.points.now _ c.requires.n_bound.1 (rw tiny_is at c.if-length.false) parts-found c.if-parts-eq0.true c.at-a.ensures c.put_point.ensures
 
-pub place_inner-requires : goal.place_inner-requires
-place_inner-requires c =
+pub invariant_of-side : goal.invariant_of-side
+invariant_of-side c =
     let turned_ring : Ring = read_ring c.args.ring in
     let inner-at : ℕ = plans.inner c.args.spacing.h c.args.spacing.corner_margin turned_ring c.args.i in
     let parts_at : ℕ = plans.parts c.args.spacing.h c.args.spacing.corner_margin turned_ring c.args.i in
     let inner-found : c.inner_of.result ≡ inner-at = (inner_is c.args.spacing.h c.args.spacing.corner_margin turned_ring c.args.i _ _ c.requires.n_bound.2 c.inner_of.ensures) in
-    let parts-found : c.parts_of-k.result ≡ parts_at = (omega (arith, c.parts_of-k.ensures, inner-found, c.requires.i_value)) in
-    let k = parts-found in
-    (omega (arith, k, c.requires.i_bound.0), omega (arith, k, c.requires.i_bound.0, c.requires.i_bound.1, c.put_point.auto.pts))
+    let parts-found : c.parts_of-parts.result ≡ parts_at = (omega (arith, c.parts_of-parts.ensures, inner-found, c.requires.i_value)) in
+    record { few = omega (arith, parts-found, c.requires.i_bound.0) }
+
+pub place-requires : goal.place-requires
+place-requires c =
+    let turned_ring : Ring = read_ring c.args.ring in
+    let inner-at : ℕ = plans.inner c.args.spacing.h c.args.spacing.corner_margin turned_ring c.args.i in
+    let parts_at : ℕ = plans.parts c.args.spacing.h c.args.spacing.corner_margin turned_ring c.args.i in
+    let inner-found : c.inner_of.result ≡ inner-at = (inner_is c.args.spacing.h c.args.spacing.corner_margin turned_ring c.args.i _ _ c.requires.n_bound.2 c.inner_of.ensures) in
+    let parts-found : c.parts_of-parts.result ≡ parts_at = (omega (arith, c.parts_of-parts.ensures, inner-found, c.requires.i_value)) in
+    omega (arith, parts-found, c.requires.i_bound.0, c.requires.i_bound.1, c.put_point.auto.pts)
 
 pub overflow_add-result : goal.overflow_add-result
 overflow_add-result c =
@@ -47,7 +55,7 @@ overflow_add-result c =
     let inner-at : ℕ = plans.inner c.args.spacing.h c.args.spacing.corner_margin turned_ring c.args.i in
     let parts_at : ℕ = plans.parts c.args.spacing.h c.args.spacing.corner_margin turned_ring c.args.i in
     let inner-found : c.inner_of.result ≡ inner-at = (inner_is c.args.spacing.h c.args.spacing.corner_margin turned_ring c.args.i _ _ c.requires.n_bound.2 c.inner_of.ensures) in
-    let parts-found : c.parts_of-k.result ≡ parts_at = (omega (arith, c.parts_of-k.ensures, inner-found, c.requires.i_value)) in
+    let parts-found : c.parts_of-parts.result ≡ parts_at = (omega (arith, c.parts_of-parts.ensures, inner-found, c.requires.i_value)) in
     omega (arith, parts-found, c.requires.i_bound.0)
 
 pub returns : goal.returns
@@ -56,5 +64,5 @@ returns c =
     let inner-at : ℕ = plans.inner c.args.spacing.h c.args.spacing.corner_margin turned_ring c.args.i in
     let parts_at : ℕ = plans.parts c.args.spacing.h c.args.spacing.corner_margin turned_ring c.args.i in
     let inner-found : c.inner_of.result ≡ inner-at = (inner_is c.args.spacing.h c.args.spacing.corner_margin turned_ring c.args.i _ _ c.requires.n_bound.2 c.inner_of.ensures) in
-    let parts-found : c.parts_of-k.result ≡ parts_at = (omega (arith, c.parts_of-k.ensures, inner-found, c.requires.i_value)) in
-    long_side c.args.spacing.h c.args.spacing.corner_margin turned_ring c.args.i _ c.args.at _ _ _ _ _ _ c.args.points.now _ _ c.requires.n_bound.1 (rw tiny_is at c.if-length.false) c.next_of.ensures.value c.at-a.ensures c.at-b.ensures c.margin_at-margin.ensures c.requires.n_bound.2 parts-found c.put_point.ensures c.place_inner.ensures
+    let parts-found : c.parts_of-parts.result ≡ parts_at = (omega (arith, c.parts_of-parts.ensures, inner-found, c.requires.i_value)) in
+    long_side c.args.spacing.h c.args.spacing.corner_margin turned_ring c.args.i _ c.args.at _ _ _ _ _ _ c.args.points.now _ _ c.requires.n_bound.1 (rw tiny_is at c.if-length.false) c.next_of.ensures.value c.at-a.ensures c.at-b.ensures c.margin_at-margin.ensures c.requires.n_bound.2 parts-found c.put_point.ensures c.place.ensures

@@ -21,8 +21,8 @@ returns-in_err-n-clause-left g c =
     let there : c.args.li < length (sizes_of given) = rw (sizes_long given (sound_counted given c.requires.sound)) c.requires.li_lt_fronts in
     rw (p.1, p.2) (refuses given c.requires.sound c.args.li there (accepted_of c.args.job.now) _ c.in_err-n.ensures.value)
 
-pub lay_row-after-requires : goal.lay_row-after-requires
-lay_row-after-requires g c =
+pub lay_row_in-after-requires : goal.lay_row_in-after-requires
+lay_row_in-after-requires g c =
     let given : Held = held_in c.args.lent.now c.args.counts in
     let s = c.requires.sound in
     let there : c.args.li < length (sizes_of given) = rw (sizes_long given (sound_counted given s)) c.requires.li_lt_fronts in
@@ -41,4 +41,4 @@ returns-clause-left g c =
     let j = accepted_of c.args.job.now in
     let there : c.args.li < length (sizes_of given) = rw (sizes_long given (sound_counted given s)) c.requires.li_lt_fronts in
     let new = row_read given s c.args.li there j c.try_on.new.row _ c.in_ok-n.ensures.points (c.in_ok-n.ensures.row_after refl) in
-    lays given s c.args.li there j _ _ c.in_ok-n.ensures.value new (rw (same_state given s _ c.clear_behind.ensures.written) at c.lay_row-after.ensures.laid)
+    lays given s c.args.li there j _ _ c.in_ok-n.ensures.value new (rw (same_state given s _ c.clear_behind.ensures.written) at c.lay_row_in-after.ensures.laid)

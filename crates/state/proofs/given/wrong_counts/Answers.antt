@@ -8,9 +8,9 @@ use Rattle.state.specs.Given.{some_below, wrong_counts}
 use Rattle.state.proofs.Repeating.{some_is}
 use Rattle.state.proofs.given.wrong_counts.Goals as goal
 
-pub returns-then-counts-gt4096-clause-exact : goal.returns-then-counts-gt4096-clause-exact
+pub returns-then-is_full-clause-exact : goal.returns-then-is_full-clause-exact
 unfolding wrong_counts
-returns-then-counts-gt4096-clause-exact c = λ p q n. grind (arith, nat_tests)
+returns-then-is_full-clause-exact c = λ p q n. grind (arith, nat_tests)
 
 pub returns-then-sum_of-gt2048-clause-exact : goal.returns-then-sum_of-gt2048-clause-exact
 unfolding wrong_counts

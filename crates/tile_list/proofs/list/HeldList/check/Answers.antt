@@ -29,7 +29,7 @@ slice_bounds-fronts-end c =
     let b = sb s c.requires.allowed in
     let n = b.fronts in
     let l = b.front_lengths_long in
-    sym (length-take-le s.counts.fronts s.front_lengths.now (omega arith))
+    sym (length-take-le s.counts.fronts s.state.front_lengths.now (omega arith))
 
 pub invariant_of-loops : goal.invariant_of-loops
 invariant_of-loops c =
@@ -91,7 +91,7 @@ slice_bounds-all_pass-end c =
     let b = sb s c.requires.allowed in
     let n = b.points in
     let l = b.points_long in
-    sym (length-take-le (s.counts.points * 2) s.points.now (omega arith))
+    sym (length-take-le (s.counts.points * 2) s.state.points.now (omega arith))
 
 pub overflow_mul-counts-2 : goal.overflow_mul-counts-2
 overflow_mul-counts-2 c =
@@ -101,7 +101,7 @@ overflow_mul-counts-2 c =
 pub slice_bounds-all_pass-end-2 : goal.slice_bounds-all_pass-end-2
 slice_bounds-all_pass-end-2 c =
     let s = c.args.self.now in
-    sym (length-take-le (s.counts.quads * 4) s.quads.now (quads_within s c.requires.allowed))
+    sym (length-take-le (s.counts.quads * 4) s.state.quads.now (quads_within s c.requires.allowed))
 
 pub all_pass-requires : goal.all_pass-requires
 all_pass-requires c =
@@ -109,11 +109,11 @@ all_pass-requires c =
     let b = sb s c.requires.allowed in
     let n = b.points in
     let l = b.points_long in
-    let t = length-take-le (s.counts.points * 2) s.points.now (omega arith) in
-    let u = length-take-le (s.counts.quads * 4) s.quads.now (quads_within s c.requires.allowed) in
+    let t = length-take-le (s.counts.points * 2) s.state.points.now (omega arith) in
+    let u = length-take-le (s.counts.quads * 4) s.state.quads.now (quads_within s c.requires.allowed) in
     λ i h.
     let w = quads_below_lem s c.requires.allowed i (omega arith) in
-    rw (get_or-take (s.counts.quads * 4) s.quads.now i 0 (omega arith)) (omega arith)
+    rw (get_or-take (s.counts.quads * 4) s.state.quads.now i 0 (omega arith)) (omega arith)
 
 pub returns-then-not-all_pass : goal.returns-then-not-all_pass
 returns-then-not-all_pass c =

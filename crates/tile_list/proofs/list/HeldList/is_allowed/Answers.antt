@@ -40,7 +40,7 @@ pub slice_bounds-all_different-end : goal.slice_bounds-all_different-end
 slice_bounds-all_different-end c =
     let l = c.args.self.now in
     let w = quads_within (state_in l) (loops_in l) (sym c.is_wrong.ensures ∙ c.if-is_wrong.false) l.state_long in
-    sym (length-take-le (l.counts.quads * 4) l.quads.now w.1)
+    sym (length-take-le (l.counts.quads * 4) l.state.quads.now w.1)
 
 pub returns : goal.returns
 returns c =
@@ -48,5 +48,5 @@ returns c =
     let right = sym c.is_wrong.ensures ∙ c.if-is_wrong.false in
     let w = quads_within (state_in l) (loops_in l) right l.state_long in
     c.all_different.ensures
-    ∙ ap (every_quad four_different) (sym (quads_begin l.counts.quads l.quads.now w.1))
+    ∙ ap (every_quad four_different) (sym (quads_begin l.counts.quads l.state.quads.now w.1))
     ∙ all_tested (state_in l) (loops_in l) right (sym c.is_wrong-2.ensures ∙ c.if-is_wrong-2.false) c.if-self-eq0.false c.if-counts-gt64.false

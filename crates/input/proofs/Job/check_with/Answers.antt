@@ -1,4 +1,4 @@
--- `input::Job::check` meets its contract: its tests are the definition's, in its order.
+-- `input::Job::check_with` meets its contract: its tests are the definition's, in its order.
 use mathlib.Core.Path.{◌∙◌, sym}
 use native.Mathlib.Nat.{le_of_eq}
 use borrow.Author.Tests.{lt-ltb, le-ltb}
@@ -7,7 +7,7 @@ use Rattle.state.specs.Outcome.{first_true}
 use Rattle.float.proofs.Literals.{zero_is}
 use Rattle.input.proofs.Literals.{million_is}
 use Rattle.input.proofs.Shape.{shaped}
-use Rattle.input.proofs.Job.check.Goals as goal
+use Rattle.input.proofs.Job.check_with.Goals as goal
 
 pub returns-then-wrong_shape-clause-value : goal.returns-then-wrong_shape-clause-value
 unfolding input_number first_true

@@ -1,6 +1,6 @@
--- `placing::place::inner_point` meets its contract.
+-- `placing::place::Side::point` meets its contract.
 use Rattle.placing.proofs.Literals.{half_is}
-use Rattle.placing.proofs.place.inner_point.Goals as goal
+use Rattle.placing.proofs.place.Side.point.Goals as goal
 
 pub returns : goal.returns
 returns c =
