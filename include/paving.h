@@ -16,8 +16,8 @@
  * may call at once, each with buffers of its own.
  *
  * Stack: a call works on the caller's stack and takes no other memory. The most that was measured (oracle/compare stack, over
- * 2,019 jobs and 6,016 states, in threads of 256 KiB): pave_job 100,303 bytes, pave_sample 66,655, pave_row 38,167, pave_close
- * 5,847, pave_fan 5,367, and each call of paving_geometry.h at most 255.
+ * 2,019 jobs and 6,016 states, in threads of 256 KiB): pave_job 100,759 bytes, pave_sample 66,919, pave_row 38,023, pave_close
+ * 6,215, pave_fan 5,495, and each call of paving_geometry.h at most 263.
  */
 #ifndef PAVING_H
 #define PAVING_H
