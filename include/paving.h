@@ -16,8 +16,8 @@
  * may call at once, each with buffers of its own.
  *
  * Stack: a call works on the caller's stack and takes no other memory. The most that was measured (oracle/compare stack, over
- * 2,019 jobs and 6,016 states, in threads of 256 KiB): pave_job 100,759 bytes, pave_sample 66,919, pave_row 38,023, pave_close
- * 6,215, pave_fan 5,495, and each call of paving_geometry.h at most 263.
+ * 2,019 jobs and 6,016 states, in threads of 256 KiB): pave_job 100,615 bytes, pave_sample 66,775, pave_row 37,927, pave_close
+ * 6,071, pave_fan 5,431, and each call of paving_geometry.h at most 263.
  */
 #ifndef PAVING_H
 #define PAVING_H
@@ -107,11 +107,7 @@ enum {
         /* The outline's area is not positive: the outer loop runs clockwise, or the holes take all of it. */
     /* each loop, in sampling */
     PAVE_LOOP = 7,
-        /* A loop has fewer than three points that differ from their neighbours. */
-    PAVE_FEW_NODES = 8,
-        /* Fewer than four nodes came out of a loop. */
-    PAVE_ODD_NODES = 9,
-        /* An odd number of nodes came out of a loop. */
+        /* A loop has fewer than three points, those that are closer than 0.001 * h counted as one. */
     PAVE_NODES = 10,
         /* The loops come to more than 2,048 nodes at this size. */
     /* the job's text */
@@ -155,7 +151,9 @@ enum {
  * What the buffers held before counts for nothing. Accepted: the places behind the counts are 0. Refused: every place of all
  * five buffers is 0, whatever their lengths. */
 
-/* The loops sampled into nodes: each is a front, no quad is laid. Numbers 1 to 6, then for each loop in turn 7, 10, 8, 9. */
+/* The loops sampled into nodes: each is a front, no quad is laid. A point is dropped when it differs by less than 0.001 * h, in x
+ * and in y, from the last point that was kept; then last points that differ so little from the first. Numbers 1 to 6, then for
+ * each loop in turn 7, 10. */
 uint32_t pave_sample(
     const double *coords, size_t coords_len,
     const uint16_t *loop_lengths, size_t loop_lengths_len,
@@ -167,7 +165,7 @@ uint32_t pave_sample(
     uint16_t *front_lengths, size_t front_lengths_len,
     pave_counts *counts, size_t counts_len);
 
-/* The whole job: sampling, passes of rows, closings. Numbers 1 to 6, then for each loop in turn 7, 10, 8, 9, then 21. */
+/* The whole job: sampling, passes of rows, closings. Numbers 1 to 6, then for each loop in turn 7, 10, then 21. */
 uint32_t pave_job(
     const double *coords, size_t coords_len,
     const uint16_t *loop_lengths, size_t loop_lengths_len,

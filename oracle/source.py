@@ -1,8 +1,9 @@
 """Cuts the functions that the oracle needs out of the Rust source, by name.
 
 Nothing of the source is kept in this repository: the items below are found by
-name when the oracle is built, and document 01's measures are put in by
-replacements of the shortest text that stands once in its function.
+name when the oracle is built, and document 01's measures and document 02's
+changes are put in by replacements of the shortest text that stands once in its
+function.
 """
 
 import hashlib
@@ -104,6 +105,13 @@ CORNER_LIMIT = [
     ("fn best_six_closure", "q2) {", "q2, limit) {"),
     ("fn fan_fill", "domain: &Domain", "domain: &Domain, limit: f64"),
     ("fn fan_fill", "quad_ok(&paving.points, quad", "quad_ok(&paving.points, quad, limit"),
+]
+
+# Document 02's change 3: two points count as equal when both differences are below 0.001 x h, for the following point and for the
+# closing pair, as (item, old, new). Each text begins at the limit of x and ends with that of y.
+CLOSE_POINTS = [
+    ("fn sample_loop", "1e-12 && (q[1] - p[1]).abs() < 1e-12", "0.001 * h && (q[1] - p[1]).abs() < 0.001 * h"),
+    ("fn sample_loop", "1e-12 && (a[1] - b[1]).abs() < 1e-12", "0.001 * h && (a[1] - b[1]).abs() < 0.001 * h"),
 ]
 
 # The two counts that the port adds, and where a run can stop, as (item, old, new).
@@ -253,9 +261,11 @@ def module(file, text, replacements):
 def generate(folder, without=None):
     """The text of cut.rs, the files that differ, and the replacements made.
 
-    A measure (1 or 2) or the added limits ("limits") can be left out, to show
-    what they change."""
+    A measure (1 or 2), the limit of close points ("close") or the added limits
+    ("limits") can be left out, to show what they change."""
     replacements = [m[1:] for m in MEASURES if m[0] != without] + CORNER_LIMIT + HOOKS
+    if without != "close":
+        replacements += CLOSE_POINTS
     if without != "limits":
         replacements += LIMITS
     for item, old, _ in replacements:

@@ -19,8 +19,9 @@
 //! compare stack [SEED COUNT]     how much stack each call takes, on the jobs by name and on COUNT jobs
 //!
 //! Every bit of the port's answers and every place of the lent buffers against the Rust's. The exit status is not 0 when
-//! one differs, or when a kind of answer that a call can give did not come up in 10,000 or more; for the closings and the
-//! fan, also when no splits or clearances tied in them. The jobs have the default corner limit or another, and calls on a state
+//! one differs, or when a kind of answer that a call can give did not come up in 10,000 or more; for sampling and jobs, also when
+//! no two points were just so far apart as to count as equal or not, for the closings and the fan when no splits or clearances
+//! tied in them. The jobs have the default corner limit or another, and calls on a state
 //! now and then one of their own; for each call with another valid limit than the default the Rust also answers with the
 //! default, and how many answers differ in that is printed. In 10,000 or more some have to, of each call but the sampling.
 
@@ -38,8 +39,8 @@ mod work;
 
 use oracle::compare::{self, Paver, Report};
 use oracle::rounds::{End, Kind, Rounds};
-use oracle::wrong::{Wrong, WRONGS};
-use oracle::{demands, generate, requests};
+use oracle::wrong::{self, Wrong};
+use oracle::{demands, equal, generate, requests};
 use std::process::exit;
 use std::time::{Duration, Instant};
 
@@ -74,7 +75,7 @@ fn other_counts(seed: u64) -> bool {
 }
 
 fn sample(seed: u64, count: u64) -> bool {
-    told(compare::samples(&mut paver::Port, seed, count), &[("sample", &compare::SAMPLE_NUMBERS)], &[], count) & other_counts(seed)
+    told(compare::samples(&mut paver::Port, seed, count), &[("sample", &compare::SAMPLE_NUMBERS)], &equal::SEEN, count) & other_counts(seed)
 }
 
 fn rows(seed: u64, count: u64) -> bool {
@@ -92,7 +93,7 @@ fn fan(seed: u64, count: u64) -> bool {
 fn job(seed: u64, count: u64) -> bool {
     const NUMBERS: Numbers =
         &[("job", &compare::JOB_NUMBERS), ("row", &compare::ROW_NUMBERS), ("closings", &compare::CLOSE_NUMBERS), ("fan", &compare::FAN_NUMBERS)];
-    told(compare::run(&mut paver::Port, seed, count), NUMBERS, &[], count) & other_counts(seed) & named() & demand(seed, count / 10)
+    told(compare::run(&mut paver::Port, seed, count), NUMBERS, &equal::SEEN, count) & other_counts(seed) & named() & demand(seed, count / 10)
 }
 
 /// The jobs by name, each with what it has to reach.
@@ -184,11 +185,11 @@ fn main() {
         }
         let good = match wrong {
             None => all(&mut paver::Port, seed, hours),
-            Some(Some(which)) if which < WRONGS.len() => {
-                println!("wrong: {}", WRONGS[which]);
+            Some(which) => {
+                let Some((which, name)) = which.and_then(|which| Some((which, wrong::name(which)?))) else { stop() };
+                println!("wrong: {name}");
                 all(&mut Wrong { inner: paver::Port, which }, seed, hours)
             }
-            Some(_) => stop(),
         };
         exit(!good as i32);
     }

@@ -5,14 +5,14 @@ use oracle::calls::{Buffers, Counts, Job};
 use oracle::compare::{perform, Call};
 use oracle::generate::{self, Random};
 use oracle::states::{self, State};
-use oracle::{extremes, fronts};
+use oracle::{extremes, fronts, traced};
 
 /// The jobs and states of a seed, of every kind: `ask` is given each with its call.
 pub fn each(seed: u64, count: u64, mut ask: impl FnMut(u64, &'static str, Call, &Job, &State)) {
     for index in 0..count {
         let mut job = match index % 16 {
             15 => extremes::near(seed, index).job,
-            _ => generate::sampling_job(seed, index).job,
+            _ => traced::job(seed, index).job,
         };
         job.lengths.iter_mut().for_each(|n| *n = (*n).min(65_535));
         let r = &mut Random::new(seed ^ 0xFE2CE, index);

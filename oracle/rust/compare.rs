@@ -2,6 +2,7 @@
 //! every buffer, f64 by their bits; and the time of both on the same work.
 
 use crate::calls::{self, Buffers, Counts, Job};
+use crate::equal;
 use crate::extremes::{self, Reached};
 use crate::fronts;
 use crate::generate::{self, own_limit, Made, Random};
@@ -9,6 +10,7 @@ use crate::limits;
 use crate::quality::CORNER_LIMIT;
 use crate::requests::{job_lines, state_lines, Case};
 use crate::states::{self, State};
+use crate::traced;
 use std::collections::BTreeMap;
 use std::time::{Duration, Instant};
 
@@ -274,22 +276,32 @@ pub fn narrow(job: &mut Job) {
 }
 
 /// The numbers that a sampling can answer.
-pub const SAMPLE_NUMBERS: [u8; 11] = [0, 1, 2, 3, 4, 5, 6, 7, 8, 9, 10];
+pub const SAMPLE_NUMBERS: [u8; 9] = [0, 1, 2, 3, 4, 5, 6, 7, 10];
 
 /// The sampling of jobs 0 to `count` of a seed, into buffers that held anything.
 pub fn samples(port: &mut dyn Paver, seed: u64, count: u64) -> Report {
     let mut report = Report::default();
     for index in 0..count {
-        let mut made = generate::sampling_job(seed, index);
+        let mut made = traced::job(seed, index);
         narrow(&mut made.job);
         let r = &mut Random::new(seed ^ 0xC0FFEE, index);
         let mut lent = State { buffers: states::noise(r), counts: Counts::default() };
         if r.chance(2) {
             states::shorten(r, &mut lent.buffers);
         }
-        both(&mut report, port, Call::Sample, &made.job, &lent, made.change, &format!("seed {seed} job {index}"));
+        let (number, _) = both(&mut report, port, Call::Sample, &made.job, &lent, made.change, &format!("seed {seed} job {index}"));
+        see_pairs(&mut report, &made.job, number);
     }
     report
+}
+
+/// Which pairs of points a sampling tested, right after it.
+pub fn see_pairs(report: &mut Report, job: &Job, number: u8) {
+    for (what, n) in equal::SEEN.into_iter().zip(equal::pairs(job, number)) {
+        if n > 0 {
+            report.see_many(what, n);
+        }
+    }
 }
 
 /// The numbers that a row can answer.
@@ -509,13 +521,13 @@ fn see_fan(report: &mut Report, job: &Job, before: &State, after: &State) {
 }
 
 /// The numbers that a job can answer.
-pub const JOB_NUMBERS: [u8; 12] = [0, 1, 2, 3, 4, 5, 6, 7, 8, 9, 10, 21];
+pub const JOB_NUMBERS: [u8; 10] = [0, 1, 2, 3, 4, 5, 6, 7, 10, 21];
 
 /// Jobs 0 to `count` of a seed and a tenth as many near the limits, and calls on what each left and on a state made from it.
 pub fn run(port: &mut dyn Paver, seed: u64, count: u64) -> Report {
     let mut report = Report::default();
     for index in 0..count {
-        job_and_after(&mut report, port, generate::sampling_job(seed, index), "generator", seed, index);
+        job_and_after(&mut report, port, traced::job(seed, index), "generator", seed, index);
         if index % 10 == 9 {
             job_and_after(&mut report, port, extremes::near(seed, index / 10), "near the limits", seed, index / 10);
         }
@@ -534,6 +546,7 @@ pub fn job_and_after(report: &mut Report, port: &mut dyn Paver, mut made: Made, 
         states::shorten(r, &mut lent.buffers);
     }
     let (number, answer) = both(report, port, Call::Job, &made.job, &lent, from, &name);
+    see_pairs(report, &made.job, number);
     if !answer.buffers.fits() {
         return;
     }
@@ -632,7 +645,7 @@ impl Paver for Faulty {
     fn sample(&mut self, job: &Job, b: &mut Buffers) -> (u8, Counts) {
         let (n, mut c) = calls::sample(job, b);
         self.spoil(n, &mut c, b);
-        (if self.0 == 5 && n == 10 { 8 } else { n }, c)
+        (if self.0 == 5 && n == 10 { 7 } else { n }, c)
     }
     fn job(&mut self, job: &Job, b: &mut Buffers) -> (u8, Counts) {
         let (n, mut c) = calls::job(job, b);

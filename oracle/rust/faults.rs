@@ -1,8 +1,9 @@
-//! Pavers that each go wrong in one thing, in the closings, in the fan or in the corner limit: a comparison that does not see it
-//! shows nothing.
+//! Pavers that each go wrong in one thing, in which points count as equal, in the closings, in the fan or in the corner limit: a
+//! comparison that does not see it shows nothing.
 
 use crate::calls::{self, Buffers, Counts, Job};
 use crate::compare::{with_limit, Oracle, Paver};
+use crate::equal;
 use crate::fronts;
 use crate::functions::Point;
 use crate::limits::{self, MAX_POINTS, MAX_QUADS};
@@ -207,5 +208,38 @@ impl Paver for OtherLimit {
     fn fan(&mut self, job: &Job, b: &mut Buffers, c: Counts) -> (u8, Counts) {
         let limit = if self.which == 3 { CORNER_LIMIT } else { self.before };
         Oracle.fan(&Self::given(job, self.which >= 3, limit), b, c)
+    }
+}
+
+/// The oracle with another answer wherever a wrong reading of which points count as equal, by its place in `equal::WRONG`, keeps
+/// other points: the last bit of the first point.
+pub struct OtherPoints(pub usize);
+
+impl OtherPoints {
+    fn spoil(&self, job: &Job, b: &mut Buffers, answer: (u8, Counts)) -> (u8, Counts) {
+        if answer.0 == 0 && equal::read_otherwise(job, self.0) {
+            b.points[0] = f64::from_bits(b.points[0].to_bits() ^ 1);
+        }
+        answer
+    }
+}
+
+impl Paver for OtherPoints {
+    fn sample(&mut self, job: &Job, b: &mut Buffers) -> (u8, Counts) {
+        let answer = Oracle.sample(job, b);
+        self.spoil(job, b, answer)
+    }
+    fn job(&mut self, job: &Job, b: &mut Buffers) -> (u8, Counts) {
+        let answer = Oracle.job(job, b);
+        self.spoil(job, b, answer)
+    }
+    fn row(&mut self, job: &Job, front: usize, b: &mut Buffers, c: Counts) -> (u8, Counts) {
+        Oracle.row(job, front, b, c)
+    }
+    fn close(&mut self, job: &Job, b: &mut Buffers, c: Counts) -> (u8, Counts) {
+        Oracle.close(job, b, c)
+    }
+    fn fan(&mut self, job: &Job, b: &mut Buffers, c: Counts) -> (u8, Counts) {
+        Oracle.fan(job, b, c)
     }
 }

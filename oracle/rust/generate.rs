@@ -222,7 +222,7 @@ fn self_cross(r: &mut Random, loops: &mut [Loop]) {
     loops[which].swap(i, j);
 }
 
-/// A first side of 1e-12: the loop's first point is put at the origin.
+/// A first side of 1e-12, whose points count as equal: the loop's first point is put at the origin.
 fn least_first_side(r: &mut Random, points: &mut Loop) {
     if r.chance(50) {
         points.truncate(3);
@@ -239,6 +239,7 @@ fn least_first_side(r: &mut Random, points: &mut Loop) {
     }
 }
 
+/// Points doubled before the size is known; those about a thousandth of the size apart are in traced.rs.
 fn double_points(r: &mut Random, loops: &mut [Loop]) {
     if r.chance(40) {
         least_first_side(r, &mut loops[0]);

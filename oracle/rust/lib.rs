@@ -4,11 +4,11 @@
 //! around it: document 01's measures (`quality`), the added limits (`limits`),
 //! calls over lent buffers (`calls`), the texts (`text`, `requests`), a tile list
 //! read back (`recheck`), single functions (`functions`), jobs, states, texts and
-//! tile lists from a seed (`generate`, `extremes`, `mixed`, `states`, `fronts`,
-//! `texts`, `lists` with `edits`), what a job met (`met`), the counting of demand 3
-//! (`demands`), and any paver side by side with the oracle (`compare`, `rounds`),
-//! among them pavers with a fault (`faults`, `wrong`); a difference made smaller
-//! (`reduce`, `shorter`).
+//! tile lists from a seed (`generate`, `traced`, `extremes`, `mixed`, `states`,
+//! `fronts`, `texts`, `lists` with `edits`), what a job met (`met`) and which of its
+//! points count as equal (`equal`), the counting of demand 3 (`demands`), and any
+//! paver side by side with the oracle (`compare`, `rounds`), among them pavers with a
+//! fault (`faults`, `wrong`); a difference made smaller (`reduce`, `shorter`).
 
 #[allow(dead_code)]
 #[rustfmt::skip]
@@ -18,6 +18,7 @@ pub mod calls;
 pub mod compare;
 pub mod demands;
 pub mod edits;
+pub mod equal;
 pub mod extremes;
 pub mod faults;
 pub mod fronts;
@@ -36,6 +37,7 @@ pub mod shorter;
 pub mod states;
 pub mod text;
 pub mod texts;
+pub mod traced;
 pub mod wrong;
 
 pub use cut::alt_paving::Options;

@@ -34,6 +34,7 @@ pub enum Until {
 
 thread_local! {
     static UNTIL: Cell<Until> = const { Cell::new(Until::End) };
+    static KEPT: Cell<usize> = const { Cell::new(0) };
     static PLANNED: Cell<usize> = const { Cell::new(0) };
     static PASSES: Cell<usize> = const { Cell::new(0) };
     static LAID: Cell<usize> = const { Cell::new(0) };
@@ -42,6 +43,7 @@ thread_local! {
 /// Before a run.
 pub fn begin(until: Until) {
     UNTIL.set(until);
+    KEPT.set(0);
     PLANNED.set(0);
     PASSES.set(0);
     LAID.set(0);
@@ -50,6 +52,11 @@ pub fn begin(until: Until) {
 /// Passes begun, and the quads when the rows stopped.
 pub fn passes_and_laid() -> (usize, usize) {
     (PASSES.get(), LAID.get())
+}
+
+/// Points of the loops planned so far that were not dropped as equal to another.
+pub fn points_kept() -> usize {
+    KEPT.get()
 }
 
 /// Nodes planned by the sampling so far.
@@ -91,6 +98,7 @@ pub fn coordinates(domain: &Domain) -> Result<(), String> {
 
 /// Number 10, when a loop's counts stand and nothing is placed yet.
 pub fn planned(kept: usize, inner: &[usize]) -> Result<(), String> {
+    KEPT.set(KEPT.get() + kept);
     PLANNED.set(PLANNED.get() + kept + inner.iter().sum::<usize>());
     if PLANNED.get() > MAX_PLANNED { Err("limit 10".to_string()) } else { Ok(()) }
 }

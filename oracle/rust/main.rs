@@ -7,7 +7,7 @@
 //! driver demands SEED COUNT   pits demand 3 against the oracle
 //! driver selftest SEED COUNT  compares the oracle with itself, and with pavers that have a fault
 
-use oracle::{compare, demands, faults, generate, lists, recheck, requests, text, texts};
+use oracle::{compare, demands, equal, faults, generate, lists, recheck, requests, text, texts};
 use std::io::{Read, Write};
 use std::process::exit;
 
@@ -128,6 +128,10 @@ fn main() {
                 };
                 for (i, name) in slips.iter().enumerate() {
                     faulty(&mut faults::Slip(i), name, true);
+                }
+                let readings: &[&str] = if matches!(what, "whole" | "sample") { &equal::WRONG } else { &[] };
+                for (i, name) in readings.iter().enumerate() {
+                    faulty(&mut faults::OtherPoints(i), name, true);
                 }
                 let limits: &[usize] = match what {
                     "whole" => &[0, 1, 2, 3, 4],

@@ -1,11 +1,13 @@
 //! Jobs of every kind from a seed, many in little time: small ones for the most part, and among them those in which a distance
-//! is met exactly, those with a coordinate or a size at its limit, loops that touch themselves, and those near the limits.
+//! is met exactly, those with a coordinate or a size at its limit, loops that touch themselves or have points close to each other,
+//! and those near the limits.
 
 use crate::calls::{default_options, Job};
 use crate::extremes;
 use crate::functions::Point;
 use crate::generate::{self, Made, Random};
 use crate::limits::{LEAST_CORNER_LIMIT, LEAST_SIZE, MOST_COORDINATE, MOST_CORNER_LIMIT, MOST_SIZE};
+use crate::traced;
 
 /// Job `index` of a seed.
 pub fn job(seed: u64, index: u64) -> Made {
@@ -19,6 +21,7 @@ pub fn job(seed: u64, index: u64) -> Made {
         74..=77 => changed(r, seed, index, "size 1,000,000", |_, job| resize(job, MOST_SIZE)),
         78..=85 => changed(r, seed, index, "options at limits", options),
         86..=93 => changed(r, seed, index, "holes moved", holes),
+        94..=123 => changed(r, seed, index, "close points", traced::close_points),
         _ => generate::small_job(seed, index),
     }
 }
@@ -34,12 +37,12 @@ fn changed(r: &mut Random, seed: u64, index: u64, change: &'static str, by: fn(&
 }
 
 /// The loops of a sound job.
-fn loops_of(job: &Job) -> Vec<Vec<Point>> {
+pub fn loops_of(job: &Job) -> Vec<Vec<Point>> {
     let mut pairs = job.xy.chunks_exact(2).map(|p| [p[0], p[1]]);
     job.lengths.iter().map(|&n| pairs.by_ref().take(n).collect()).collect()
 }
 
-fn set_loops(job: &mut Job, loops: Vec<Vec<Point>>) {
+pub fn set_loops(job: &mut Job, loops: Vec<Vec<Point>>) {
     job.lengths = loops.iter().map(Vec::len).collect();
     job.xy = loops.into_iter().flatten().flatten().collect();
 }

@@ -5,7 +5,7 @@ use crate::compare::{self, both, Call, Oracle, Paver, Report};
 use crate::generate::Random;
 use crate::requests::{self, Case};
 use crate::states::{self, State};
-use crate::{met, mixed, reduce};
+use crate::{equal, met, mixed, reduce};
 use std::time::{Duration, Instant};
 
 /// In each round so many jobs, and so many states for rows, closings and fans.
@@ -78,7 +78,8 @@ impl Rounds {
             out.extend(report.unchanged([CALLS[k]]).iter().map(|_| format!("an answer of {} that its corner limit changed", WORDS[k])));
         }
         let [_, closings, fans] = &self.states;
-        let unseen = self.jobs.unseen(&met::ALL).into_iter().chain(closings.unseen(&compare::CLOSE_SEEN)).chain(fans.unseen(&compare::FAN_SEEN));
+        let jobs = self.jobs.unseen(&met::ALL).into_iter().chain(self.jobs.unseen(&equal::SEEN));
+        let unseen = jobs.chain(closings.unseen(&compare::CLOSE_SEEN)).chain(fans.unseen(&compare::FAN_SEEN));
         out.extend(unseen.map(str::to_string));
         out.extend(further.iter().flat_map(|kind| kind.missing()));
         out
@@ -130,6 +131,7 @@ fn jobs(report: &mut Report, port: &mut dyn Paver, seed: u64, count: u64) {
         if report.different > 0 {
             return;
         }
+        compare::see_pairs(report, &made.job, number);
         if number != 0 {
             continue;
         }

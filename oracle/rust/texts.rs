@@ -7,7 +7,7 @@ use crate::rounds::Kind;
 use crate::{mixed, text};
 use std::collections::BTreeMap;
 
-/// The numbers that a text can get: with whole coordinates no loop is left with three nodes or an odd number.
+/// The numbers that a text can get.
 pub const NUMBERS: [u8; 8] = [0, 1, 4, 6, 7, 10, 11, 21];
 
 const MOST_BYTES: usize = 65_536;

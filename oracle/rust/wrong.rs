@@ -2,9 +2,11 @@
 
 use crate::calls::{Buffers, Counts, Job};
 use crate::compare::{with_limit, Paver};
+use crate::equal;
 use crate::limits::{corner_limit, MOST_CORNER_LIMIT};
 use crate::quality::CORNER_LIMIT;
 
+/// Behind these come the wrong readings of which points count as equal, `equal::WRONG`.
 pub const WRONGS: [&str; 11] = [
     "the last bit of a point, after a job with a hole and two rows or more",
     "a row on a front of eight nodes is refused with 22",
@@ -12,12 +14,17 @@ pub const WRONGS: [&str; 11] = [
     "the last bit of a fan's centre, when it lies below 0",
     "a pass less is counted when 64 are allowed",
     "a place behind the counts is not 0, after a job with three loops",
-    "8 in place of 7",
+    "10 in place of 7",
     "a fan reads behind its counts",
     "a buffer of another length is let through when it is that of the front lengths",
     "the closings have the default corner limit",
     "a corner limit of 0.9 is refused with 3",
 ];
+
+/// What one is; there is none behind the last.
+pub fn name(which: usize) -> Option<&'static str> {
+    WRONGS.iter().chain(&equal::WRONG).nth(which).copied()
+}
 
 pub struct Wrong<P> {
     pub inner: P,
@@ -42,8 +49,10 @@ impl<P: Paver> Paver for Wrong<P> {
             0 if n == 0 && job.lengths.len() > 1 && c.row_rounds > 1 => flip(&mut b.points[2 * c.points - 1]),
             4 if n == 0 && job.options.max_row_rounds == 64 && c.passes > 1 => c.passes -= 1,
             5 if n == 0 && job.lengths.len() > 2 && c.fronts < 16 => b.front_lengths[15] = 1,
-            6 if n == 7 => n = 8,
+            6 if n == 7 => n = 10,
             8 if n == 1 && b.front_lengths.len() != 16 && b.points.len() == 8_192 => n = 2,
+            // a point more or less is another answer; here the last bit of the first shows it
+            k if k >= WRONGS.len() && n == 0 && equal::read_otherwise(job, k - WRONGS.len()) => flip(&mut b.points[0]),
             _ => {}
         }
         (n, c)

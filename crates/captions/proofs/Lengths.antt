@@ -13,7 +13,7 @@ use Rattle.shapes.specs.Places.{across_text}
 use Rattle.shapes.proofs.Lengths.{joined_total, chosen_length, across_length}
 use Rattle.frames.specs.Views.{closing, plain_head, plain_caption}
 use Rattle.frames.proofs.Lengths.{closing-length, plain_head_length, plain_caption_length}
-use Rattle.captions.specs.Captions.{count_text, sizes_text, steps_text, least_text, corner_text, done_caption, one_of, input_sentence, loop_sentence, size_sentence, refused_caption, words_text}
+use Rattle.captions.specs.Captions.{count_text, sizes_text, steps_text, least_text, corner_text, done_caption, one_of, input_sentence, paving_sentence, text_sentence, refused_caption, words_text}
 
 -- ---- words
 
@@ -71,11 +71,11 @@ sentence_length n i a j b k c f g h = chosen_length (eqb n i) a _ 80 f (chosen_l
 pub refused_length : (n : ℕ) → length (refused_caption n) ≤ 270
 unfolding refused_caption
 refused_length n =
-    let t = joined_total (ascii "refused " ∷ decimal_text n ∷ ascii ": " ∷ input_sentence n ∷ loop_sentence n ∷ size_sentence n ∷ []) in
+    let t = joined_total (ascii "refused " ∷ decimal_text n ∷ ascii ": " ∷ input_sentence n ∷ paving_sentence n ∷ text_sentence n ∷ []) in
     let d = length_at_most 20 n in
     let a : length (input_sentence n) ≤ 80 = sentence_length n 1 _ 4 _ 6 _ (omega arith) (omega arith) (omega arith) in
-    let b : length (loop_sentence n) ≤ 80 = sentence_length n 7 _ 8 _ 9 _ (omega arith) (omega arith) (omega arith) in
-    let c : length (size_sentence n) ≤ 80 = sentence_length n 10 _ 11 _ 21 _ (omega arith) (omega arith) (omega arith) in
+    let b : length (paving_sentence n) ≤ 80 = sentence_length n 7 _ 10 _ 21 _ (omega arith) (omega arith) (omega arith) in
+    let c : length (text_sentence n) ≤ 80 = chosen_length (eqb n 11) (ascii "the text is not that of a job.") [] 80 (omega arith) (omega arith) in
     omega arith
 
 -- ---- words alone

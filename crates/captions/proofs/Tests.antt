@@ -20,6 +20,6 @@ module _ (n : ℕ) where
   unfolding one_of
   none_of i j k a b c f g h = rw (ne_eqb n i f, ne_eqb n j g, ne_eqb n k h)
 
-  pub sentence_none : (n ≡ 1 → ⊥) → (n ≡ 4 → ⊥) → (n ≡ 6 → ⊥) → (n ≡ 7 → ⊥) → (n ≡ 8 → ⊥) → (n ≡ 9 → ⊥) → (n ≡ 10 → ⊥) → (n ≡ 11 → ⊥) → (n ≡ 21 → ⊥) → [] ≡ sentence n
+  pub sentence_none : (n ≡ 1 → ⊥) → (n ≡ 4 → ⊥) → (n ≡ 6 → ⊥) → (n ≡ 7 → ⊥) → (n ≡ 10 → ⊥) → (n ≡ 11 → ⊥) → (n ≡ 21 → ⊥) → [] ≡ sentence n
   unfolding sentence
-  sentence_none a b c d e f g h i = rw (none_of 1 4 6 _ _ _ a b c, none_of 7 8 9 _ _ _ d e f, none_of 10 11 21 _ _ _ g h i)
+  sentence_none a b c d e f g = rw (none_of 1 4 6 _ _ _ a b c, none_of 7 10 21 _ _ _ d e g, ne_eqb n 11 f)

@@ -52,26 +52,22 @@ input_sentence n =
     4 (ascii "the outer loop has fewer than three points.")
     6 (ascii "the outline has no area left; is the outer loop given counter-clockwise?")
 
-abbrev pub loop_sentence : ℕ → List ℕ
-loop_sentence n =
+abbrev pub paving_sentence : ℕ → List ℕ
+paving_sentence n =
     one_of n
-    7 (ascii "a loop has fewer than three different points.")
-    8 (ascii "a loop got fewer than four nodes.")
-    9 (ascii "a loop got an odd number of nodes.")
-
-abbrev pub size_sentence : ℕ → List ℕ
-size_sentence n =
-    one_of n
+    7 (ascii "a loop has fewer than three points, close ones counted as one.")
     10 (ascii "the outline needs more than 2,048 nodes at this size.")
-    11 (ascii "the text is not that of a job.")
     21 (ascii "the plate needs more than 4,096 points or tiles at this size.")
+
+abbrev pub text_sentence : ℕ → List ℕ
+text_sentence n = cond (eqb n 11) (ascii "the text is not that of a job.") []
 
 -- the three in one
 unfoldable pub sentence : ℕ → List ℕ
-sentence n = input_sentence n ++ loop_sentence n ++ size_sentence n
+sentence n = input_sentence n ++ paving_sentence n ++ text_sentence n
 
 unfoldable pub refused_caption : ℕ → List ℕ
-refused_caption n = joined (ascii "refused " ∷ decimal_text n ∷ ascii ": " ∷ input_sentence n ∷ loop_sentence n ∷ size_sentence n ∷ [])
+refused_caption n = joined (ascii "refused " ∷ decimal_text n ∷ ascii ": " ∷ input_sentence n ∷ paving_sentence n ∷ text_sentence n ∷ [])
 
 -- ---- words alone: for a text that is no job, or has no point, or too many loops or points to draw
 

@@ -1,7 +1,7 @@
 -- A number and a finite limit: its size is tested by the limit on either side.
 use Rattle.std.proofs.Common.{◌≡◌, ℕ, zero, suc, ◌+◌, ◌*◌, ◌<◌, ◌≤◌, Bool, true, false, not, ◌&&◌, ◌||◌, eqb, ltb, ℤ, sym, refl, ◌∙◌, subst, true≢false, arith, ltb-false, ltb-true, le-ltb, lt-ltb, eq-eqb, ne_eqb}
-use lib.Ieee.{Float, nan, inf, fin, up, down, below, level, lt, le, eq, neg, round}
-use Rattle.float.specs.Helpers.{decimal, absolute, is_finite}
+use lib.Ieee.{Float, nan, inf, fin, up, down, below, level, lt, le, eq, neg}
+use Rattle.float.specs.Helpers.{absolute, is_finite}
 
 -- what holds of a < b, b < a, a = b, b = a, 0 < a + b, 0 < b + a, a = 0 and b = 0 in each of four cases holds of them
 each : (P : Bool → Bool → Bool → Bool → Bool → Bool → Bool → Bool → Type 0) → ((x y : Bool) → P true false false false true true x y)
@@ -74,10 +74,38 @@ module _ (n : ℕ) (d : ℤ) where
   within (inf false) = refl
   within (fin s m e) = under_size s (m * up e * down d) (n * up d * down e)
 
-pub tiny_by : (z d : Float) → z ≡ decimal 1 12 → lt d z ≡ true → lt (neg z) d ≡ lt (absolute d) (decimal 1 12)
-unfolding round
-tiny_by z d e h = sym (within _ _ d ∙ rw (← e, h))
+-- ---- any limit
+-- no size is below a negative limit, and no number between it and its opposite
+below_negative : (s : Bool) (a b : ℕ) → false ≡ (below s a true b && below false b s a)
+below_negative false a b = refl
+below_negative true a b = sym (and_false (below true a true b))
+  where
+    and_false : (t : Bool) → (t && false) ≡ false
+    and_false true = refl
+    and_false false = refl
 
-pub not_tiny : (z d : Float) → z ≡ decimal 1 12 → lt d z ≡ false → false ≡ lt (absolute d) (decimal 1 12)
-unfolding round
-not_tiny z d e h = sym (within _ _ d ∙ rw (← e, h))
+size_below : (limit x : Float) → lt (absolute x) limit ≡ (lt x limit && lt (neg limit) x)
+unfolding absolute neg lt
+size_below nan nan = refl
+size_below nan (inf true) = refl
+size_below nan (inf false) = refl
+size_below nan (fin s m e) = refl
+size_below (inf true) nan = refl
+size_below (inf true) (inf true) = refl
+size_below (inf true) (inf false) = refl
+size_below (inf true) (fin s m e) = refl
+size_below (inf false) nan = refl
+size_below (inf false) (inf true) = refl
+size_below (inf false) (inf false) = refl
+size_below (inf false) (fin s m e) = refl
+size_below (fin true n d) nan = refl
+size_below (fin true n d) (inf true) = refl
+size_below (fin true n d) (inf false) = refl
+size_below (fin true n d) (fin s m e) = below_negative s (m * up e * down d) (n * up d * down e)
+size_below (fin false n d) x = within n d x
+
+pub below_by : (limit x : Float) → lt x limit ≡ true → lt (neg limit) x ≡ lt (absolute x) limit
+below_by limit x h = sym (size_below limit x ∙ rw h)
+
+pub not_below : (limit x : Float) → lt x limit ≡ false → false ≡ lt (absolute x) limit
+not_below limit x h = sym (size_below limit x ∙ rw h)

@@ -8,9 +8,9 @@ use lib.Ieee.Fits.{up_pos, down_pos, round-fits, add-fits}
 use lib.Ieee.Exact.{HasValue}
 use lib.Ieee.Order.{round_mono, le_of_values}
 use lib.Ieee.Positive.{num, den, positive, den_pos, own_value, value→cross, positive_of_value, values_of_le, through}
-use Rattle.float.specs.Helpers.{decimal, is_finite}
+use Rattle.float.specs.Helpers.{decimal, absolute, is_finite}
 use Rattle.float.specs.Root.{root}
-use Rattle.float.proofs.Signs.{clash}
+use Rattle.float.proofs.Signs.{clash, yes}
 use Rattle.float.proofs.Held.{pow_lt_back}
 use Rattle.float.proofs.Patterns.{here_or_on, is_number}
 use Rattle.float.proofs.Nearest.{root_nearest, root_exact}
@@ -148,64 +148,68 @@ square_is (fin true m e) f = refl
 square_is (fin false m e) f = refl
 
 -- ---- a part x of a length root s, where s is at least what the square of x is at least
-module _ (x s : Float) (w : Within (2 ^ 53) x) (F : T (fits binary64 s)) (long : Long (root s))
+module _ (x s : Float) (w : Within (2 ^ 53) x) (F : T (fits binary64 s))
     (covers : (a c : ℕ) → 0 < c → Exact a c → T (le (round binary64 false a c) (mul binary64 x x)) → T (le (round binary64 false a c) s)) where
-  -- for x from 2 ^ -40 up, by its leading digit
-  module _ (D : Digits (num x * 2 ^ 40) (den x)) where
-    abbrev j : ℕ
-    j = D.log
-
-    few : j ≤ 500
-    few = small j (pow_lt_back j 94 (lt_of_le_of_lt (le_of_mul-le-mul_right (le_trans D.least (go (num x) (den x) (under_own x (2 ^ 53) 1 w))) (den_pos x)) (lit< tt)))
-      where
-        go : (n d : ℕ) → n * 1 ≤ 9007199254740992 * d → n * 1099511627776 ≤ 9903520314283042199192993792 * d
-        go n d h = omega arith
-
-        small : (j : ℕ) → j < 94 → j ≤ 500
-        small j h = omega arith
-
+  -- where x is at least 2 ^ (j - 40), so is the length
+  module _ (j : ℕ) (few : j ≤ 500) (least : 2 ^ j * den x ≤ num x * 2 ^ 40) where
     under_square : T (le (square j few) (mul binary64 x x))
     under_square =
         subst (λ (v : Float). T (le (square j few) v)) (sym (square_is x (within_finite x (2 ^ 53) 1 w)))
         (round_mono binary64 (2 ^ (j + j)) (2 ^ 80) (num x * num x) (den x * den x) (pow_pos 80) (mul-pos (den_pos x) (den_pos x))
         (le_trans (le_of_eq (ap (λ (k : ℕ). k * (den x * den x)) (pow-add 2 j j) ∙ mul-mul-mul_comm (2 ^ j) (2 ^ j) (den x) (den x)))
-        (le_trans (mul-le-mul D.least D.least) (le_of_eq (mul-mul-mul_comm (num x) (2 ^ 40) (num x) (2 ^ 40))))))
+        (le_trans (mul-le-mul least least) (le_of_eq (mul-mul-mul_comm (num x) (2 ^ 40) (num x) (2 ^ 40))))))
 
     under_length : T (le (side j few) (root s))
     under_length =
         subst (λ (v : Float). T (le v (root s))) (root_side j few)
         (root_monotone (square j few) s (round-fits binary64 false (2 ^ (j + j)) (2 ^ 80)) F (not_below j few) (covers (2 ^ (j + j)) (2 ^ 80) (pow_pos 80) (square_exact j few) under_square))
 
-    from_digits : num x * den (root s) ≤ 2 * (num (root s) * den x)
-    from_digits =
-        le_of_mul-le-mul_right
-        (go (num x) (den x) (num (root s)) (den (root s)) (2 ^ 40) (2 ^ j) (2 ^ suc j) (pow-suc 2 j) (mul-le-mul_right (den (root s)) (le_of_lt D.most))
-        (mul-le-mul_right (den x) (values_of_le (side j few) (root s) (2 ^ j) (2 ^ 40) (num (root s)) (den (root s)) (side_positive j few) long.above (side_exact j few) (own_value (root s) long.above) under_length)))
-        (pow_pos 40)
-      where
-        go : (x p n q w a b : ℕ) → b ≡ a * 2 → x * w * q ≤ b * p * q → a * q * p ≤ n * w * p → x * q * w ≤ 2 * (n * p) * w
-        go x p n q w a b e f g = omega (arith, ap (λ (k : ℕ). k * p * q) e)
+  module _ (long : Long (root s)) where
+    -- for x from 2 ^ -40 up, by its leading digit
+    module _ (D : Digits (num x * 2 ^ 40) (den x)) where
+      abbrev j : ℕ
+      j = D.log
 
-  pub part_twice : Times 2 x (root s)
-  part_twice = record {
-    finite = within_finite x (2 ^ 53) 1 w;
-    unsigned = positive-clear (root s) long.above;
-    some = positive-num (root s) long.above;
-    most = elim (here_or_on (num x * 2 ^ 40) (den x)) [
-      | inl h ↦ small (num x) (den x) (num (root s)) (den (root s)) (2 ^ 40) (mul-le-mul_left (num x) long.least) (mul-le-mul_left (num (root s)) (le_of_lt h))
-      | inr h ↦ from_digits (digits (num x * 2 ^ 40) (den x) (den_pos x) h)
-    ];
-  }
-    where
-      small : (x p n q w : ℕ) → x * q ≤ x * (n * w) → n * (x * w) ≤ n * p → x * q ≤ 2 * (n * p)
-      small x p n q w f g = omega arith
+      few : j ≤ 500
+      few = small j (pow_lt_back j 94 (lt_of_le_of_lt (le_of_mul-le-mul_right (le_trans D.least (go (num x) (den x) (under_own x (2 ^ 53) 1 w))) (den_pos x)) (lit< tt)))
+        where
+          go : (n d : ℕ) → n * 1 ≤ 9007199254740992 * d → n * 1099511627776 ≤ 9903520314283042199192993792 * d
+          go n d h = omega arith
+
+          small : (j : ℕ) → j < 94 → j ≤ 500
+          small j h = omega arith
+
+      from_digits : num x * den (root s) ≤ 2 * (num (root s) * den x)
+      from_digits =
+          le_of_mul-le-mul_right
+          (go (num x) (den x) (num (root s)) (den (root s)) (2 ^ 40) (2 ^ j) (2 ^ suc j) (pow-suc 2 j) (mul-le-mul_right (den (root s)) (le_of_lt D.most))
+          (mul-le-mul_right (den x) (values_of_le (side j few) (root s) (2 ^ j) (2 ^ 40) (num (root s)) (den (root s)) (side_positive j few) long.above (side_exact j few) (own_value (root s) long.above) (under_length j few D.least))))
+          (pow_pos 40)
+        where
+          go : (x p n q w a b : ℕ) → b ≡ a * 2 → x * w * q ≤ b * p * q → a * q * p ≤ n * w * p → x * q * w ≤ 2 * (n * p) * w
+          go x p n q w a b e f g = omega (arith, ap (λ (k : ℕ). k * p * q) e)
+
+    pub part_twice : Times 2 x (root s)
+    part_twice = record {
+      finite = within_finite x (2 ^ 53) 1 w;
+      unsigned = positive-clear (root s) long.above;
+      some = positive-num (root s) long.above;
+      most = elim (here_or_on (num x * 2 ^ 40) (den x)) [
+        | inl h ↦ small (num x) (den x) (num (root s)) (den (root s)) (2 ^ 40) (mul-le-mul_left (num x) long.least) (mul-le-mul_left (num (root s)) (le_of_lt h))
+        | inr h ↦ from_digits (digits (num x * 2 ^ 40) (den x) (den_pos x) h)
+      ];
+    }
+      where
+        small : (x p n q w : ℕ) → x * q ≤ x * (n * w) → n * (x * w) ≤ n * p → x * q ≤ 2 * (n * p)
+        small x p n q w f g = omega arith
 
 -- ---- the root of x * x + y * y
-record Plain (q : Float) : Type 0 where
+-- finite and not below 0
+pub record Plain (q : Float) : Type 0 where
   pub finite : is_finite q ≡ true
   pub unsigned : T (clear q)
 
-least_of_lem : (p q : Float) (a c : ℕ) → HasValue p false a c → Plain q → T (le p q) → a * den q ≤ num q * c
+pub least_of_lem : (p q : Float) (a c : ℕ) → HasValue p false a c → Plain q → T (le p q) → a * den q ≤ num q * c
 unfolding le is_finite
 least_of_lem nan q a c v g h = absurd v
 least_of_lem (inf s) q a c v g h = absurd v
@@ -261,16 +265,23 @@ module _ (x y : Float) (wx : Within (2 ^ 53) x) (wy : Within (2 ^ 53) y) where
   squares_fit : T (fits binary64 squares)
   squares_fit = add-fits binary64 (mul binary64 x x) (mul binary64 y y)
 
+  -- the sum is at least what either square is at least
+  over_x : (a c : ℕ) → 0 < c → Exact a c → T (le (round binary64 false a c) (mul binary64 x x)) → T (le (round binary64 false a c) squares)
+  over_x a c C v l = over_first (mul binary64 x x) (mul binary64 y y) (square_plain x wx) (square_plain y wy) a c C v l
+
+  over_y : (a c : ℕ) → 0 < c → Exact a c → T (le (round binary64 false a c) (mul binary64 y y)) → T (le (round binary64 false a c) squares)
+  over_y a c C v l = over_second (mul binary64 x x) (mul binary64 y y) (square_plain x wx) (square_plain y wy) a c C v l
+
   -- where it is not below t, it is long, and each part is at most twice it
   module _ (t : Float) (short : Long t) (h : lt (root squares) t ≡ false) where
     pub long : Long (root squares)
     long = long_root squares t squares_fit squares_clear squares_finite short h
 
     pub first_twice : Times 2 x (root squares)
-    first_twice = part_twice x squares wx squares_fit long (λ a c C v l. over_first (mul binary64 x x) (mul binary64 y y) (square_plain x wx) (square_plain y wy) a c C v l)
+    first_twice = part_twice x squares wx squares_fit over_x long
 
     pub second_twice : Times 2 y (root squares)
-    second_twice = part_twice y squares wy squares_fit long (λ a c C v l. over_second (mul binary64 x x) (mul binary64 y y) (square_plain x wx) (square_plain y wy) a c C v l)
+    second_twice = part_twice y squares wy squares_fit over_y long
 
 pub tiny_long : Long (decimal 1 12)
 unfolding round
@@ -307,6 +318,70 @@ length_within x y h k =
     let l : T (le s (square 62 few)) = le_of_values s (square 62 few) (num s) (den s) (2 ^ 124) (2 ^ 80) (den_pos s) (pow_pos 80) (own s f c) (square_exact 62 few) (through (num s) 8000000000000 (2 ^ 124) (den s) 1 (2 ^ 80) (lit< tt) (under_own s 8000000000000 1 u) (lit≤ tt)) in
     let r : T (le (root s) (side 62 few)) = subst (λ (v : Float). T (le (root s) v)) (root_side 62 few) (root_monotone s (square 62 few) F (round-fits binary64 false (2 ^ 124) (2 ^ 80)) (unfold round in zero_le false (pos 0) s c (a_number s f)) l) in
     under_less (root s) (2 ^ 62) (2 ^ 40) 4194304 1 (pow_pos 40) (lit≤ tt) (le_under (root s) (side 62 few) (2 ^ 62) (2 ^ 40) (root-clear s F c) (side_exact 62 few) r)
+
+-- ---- a part of 2 ^ -20 or more makes the length more than 1e-12
+-- a size that is not below a limit of at least 2 ^ -20
+pub size_least : (x limit : Float) → is_finite x ≡ true → Plain limit → den limit ≤ num limit * 2 ^ 20 → lt (absolute x) limit ≡ false → den x ≤ num x * 2 ^ 20
+unfolding absolute is_finite lt
+size_least nan limit f g l h = clash f refl
+size_least (inf s) limit f g l h = clash f refl
+size_least (fin s m e) nan f g l h = clash g.finite refl
+size_least (fin s m e) (inf t) f g l h = clash g.finite refl
+size_least (fin s m e) (fin true n d) f g l h = absurd g.unsigned
+size_least (fin s m e) (fin false n d) f g l h =
+    plain (down e) (m * up e * 2 ^ 20)
+    (through 1 (n * up d) (m * up e) (2 ^ 20) (down d) (down e) (down_pos d) (other (down d) (n * up d * 2 ^ 20) l) (ltb-false (m * up e * down d) (n * up d * down e) h))
+  where
+    plain : (k l : ℕ) → 1 * k ≤ l → k ≤ l
+    plain k l h = omega arith
+
+    other : (k l : ℕ) → k ≤ l → 1 * k ≤ l
+    other k l h = omega arith
+
+module _ (x y : Float) (hx : Within 2000000 x) (hy : Within 2000000 y) where
+  abbrev wx : Within (2 ^ 53) x
+  wx = within_less x (lit≤ tt) hx
+
+  abbrev wy : Within (2 ^ 53) y
+  wy = within_less y (lit≤ tt) hy
+
+  few_20 : 20 ≤ 500
+  few_20 = lit≤ tt
+
+  abbrev length_of : Float
+  length_of = root (squares x y wx wy)
+
+  length_plain : Plain length_of
+  length_plain = record { finite = within_finite length_of 4194304 1 (length_within x y hx hy); unsigned = root-clear (squares x y wx wy) (squares_fit x y wx wy) (squares_clear x y wx wy) }
+
+  -- 1e-12 is below 2 ^ -20
+  tiny_below : num (decimal 1 12) * 1048576 < den (decimal 1 12)
+  unfolding round
+  tiny_below = lit< tt
+
+  over_tiny : T (le (side 20 few_20) length_of) → le length_of (decimal 1 12) ≡ false
+  over_tiny l = go (le length_of (decimal 1 12)) refl
+    where
+      both : (n d m e : ℕ) → 0 < d → 1048576 * d * e ≤ n * 1099511627776 * e → n * e ≤ m * d → suc (m * 1048576) * d ≤ e * d → ⊥
+      both n d m e p a b c = omega arith
+
+      go : (t : Bool) → le length_of (decimal 1 12) ≡ t → t ≡ false
+      go false e = refl
+      go true e =
+          absurd
+          (both (num length_of) (den length_of) (num (decimal 1 12)) (den (decimal 1 12)) (den_pos length_of)
+          (mul-le-mul_right (den (decimal 1 12)) (least_of_lem (side 20 few_20) length_of (2 ^ 20) (2 ^ 40) (side_exact 20 few_20) length_plain l))
+          (under_own length_of (num (decimal 1 12)) (den (decimal 1 12)) (le_under length_of (decimal 1 12) (num (decimal 1 12)) (den (decimal 1 12)) length_plain.unsigned (own_value (decimal 1 12) tiny_long.above) (yes e)))
+          (mul-le-mul_right (den length_of) tiny_below))
+
+  from_20 : (n d : ℕ) → d ≤ n * 1048576 → 1048576 * d ≤ n * 1099511627776
+  from_20 n d h = omega arith
+
+  pub first_longer : den x ≤ num x * 2 ^ 20 → le length_of (decimal 1 12) ≡ false
+  first_longer l = over_tiny (under_length x (squares x y wx wy) wx (squares_fit x y wx wy) (over_x x y wx wy) 20 few_20 (from_20 (num x) (den x) l))
+
+  pub second_longer : den y ≤ num y * 2 ^ 20 → le length_of (decimal 1 12) ≡ false
+  second_longer l = over_tiny (under_length y (squares x y wx wy) wy (squares_fit x y wx wy) (over_y x y wx wy) 20 few_20 (from_20 (num y) (den y) l))
 
 -- ---- a number of at most m over a length, times a part of at most d: the part is at most twice the length, so it is at most 4 * m, or d
 abbrev negative : Float → Bool

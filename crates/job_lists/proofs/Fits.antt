@@ -2,9 +2,9 @@
 use mathlib.Core.Path.{◌≡◌, refl, sym, ◌∙◌, ap, subst}
 use mathlib.Core.Bool.{Bool, true, false, cond, ◌&&◌, ◌||◌, beq}
 use mathlib.Core.List.{List, [], ◌∷◌, ◌++◌}
-use Prim.Native.Nat.{ℕ, zero, suc, ◌+◌, ◌-◌, ◌*◌, ◌/◌, ◌%◌, ◌<◌}
+use Prim.Native.Nat.{ℕ, zero, suc, ◌+◌, ◌-◌, ◌*◌, ◌/◌, ◌<◌}
 use native.Mathlib.Omega.{arith}
-use lib.Dec.{T, eqb, ltb}
+use lib.Dec.{T, ltb}
 use lib.ListN.{length, get_or, drop}
 use lib.Ieee.{Float, nan, binary64, fits, add, neg, lt}
 use lib.Ieee.Fits.{add-fits, nan-fits}
@@ -20,9 +20,9 @@ use Rattle.state.specs.Outcome.{Outcome, refused, gives, first_true, test}
 use Rattle.state.specs.Limits.{front_node_limit}
 use Rattle.state.proofs.Outcomes.{gives_same, not_both, numbered_gives}
 use Rattle.input.specs.Job.{Job}
-use Rattle.planning.specs.Ring.{close, kept, unclosed, reversed, turned, loop_ring}
+use Rattle.planning.specs.Ring.{closeness, close, kept, unclosed, reversed, turned, loop_ring}
 use Rattle.planning.specs.Plan.{parts, planned}
-use Rattle.placing.specs.Placed.{inner_point, inner_points, placed_on, placed}
+use Rattle.placing.specs.Placed.{inner_point, inner_points, placed}
 use Rattle.placing.specs.Loop.{sample_loop}
 use Rattle.sampling.specs.Sample.{empty, with_loop, sample_from, sampled}
 use Rattle.rules.specs.declared.Projection.{Projection}
@@ -71,14 +71,14 @@ RingFit r = (i : ℕ) → T (fits binary64 (r.at i).x) × T (fits binary64 (r.at
 ring_of_lem : (xs : List Float) (n : ℕ) → AllFit xs → RingFit (ring_of xs n)
 ring_of_lem xs n h i = (fit_at xs (i * 2) h, fit_at xs (i * 2 + 1) h)
 
-kept_fit : (r : Ring) → RingFit r → (k : ℕ) → AllFit (kept r k)
+kept_fit : (limit : Float) (r : Ring) → RingFit r → (k : ℕ) → AllFit (kept limit r k)
 unfolding kept
-kept_fit r f zero = tt
-kept_fit r f (suc k) = by (ltb 0 (length (kept r k)) && close (point_at (kept r k) (length (kept r k) / 2 - 1)) (r.at k)) (kept_fit r f k)
+kept_fit limit r f zero = tt
+kept_fit limit r f (suc k) = by (ltb 0 (length (kept limit r k)) && close limit (point_at (kept limit r k) (length (kept limit r k) / 2 - 1)) (r.at k)) (kept_fit limit r f k)
   where
-    by : (s : Bool) → AllFit (kept r k) → AllFit (cond s (kept r k) (kept r k ++ ((r.at k).x ∷ (r.at k).y ∷ [])))
+    by : (s : Bool) → AllFit (kept limit r k) → AllFit (cond s (kept limit r k) (kept limit r k ++ ((r.at k).x ∷ (r.at k).y ∷ [])))
     by true h = h
-    by false h = fit_append (kept r k) _ h ((f k).0, ((f k).1, tt))
+    by false h = fit_append (kept limit r k) _ h ((f k).0, ((f k).1, tt))
 
 turned_fit : (ccw : Bool) (r : Ring) → RingFit r → RingFit (turned ccw r)
 unfolding turned
@@ -88,9 +88,12 @@ turned_fit ccw r f = by (beq (lt (decimal 0 0) (signed_area r)) ccw)
     by true i = f i
     by false i = f (r.size - 1 - i)
 
-loop_fit : (ccw : Bool) (r : Ring) → RingFit r → RingFit (loop_ring ccw r)
+loop_fit : (h : Float) (ccw : Bool) (r : Ring) → RingFit r → RingFit (loop_ring h ccw r)
 unfolding loop_ring
-loop_fit ccw r f = turned_fit ccw (ring_of (kept r r.size) (unclosed (kept r r.size) (length (kept r r.size) / 2))) (ring_of_lem (kept r r.size) (unclosed (kept r r.size) (length (kept r r.size) / 2)) (kept_fit r f r.size))
+loop_fit h ccw r f =
+    let q = kept (closeness h) r r.size in
+    let n = unclosed (closeness h) q (length q / 2) in
+    turned_fit ccw (ring_of q n) (ring_of_lem q n (kept_fit (closeness h) r f r.size))
 
 -- ---- a loop's nodes: its points, and between them sums
 
@@ -103,16 +106,14 @@ module _ (h margin : Float) (r : Ring) (f : RingFit r) where
   placed_fit : (k : ℕ) → AllFit (placed h margin r k)
   unfolding placed
   placed_fit zero = tt
-  placed_fit (suc k) = fit_append (placed h margin r k) _ (placed_fit k) ((f k).0, ((f k).1, inner_fit k (parts h margin r k) (placed_on h margin r k)))
+  placed_fit (suc k) = fit_append (placed h margin r k) _ (placed_fit k) ((f k).0, ((f k).1, inner_fit k (parts h margin r k) (parts h margin r k)))
 
 loop_gives : (h margin : Float) (before : ℕ) (ccw : Bool) (r : Ring) (out : List Float) → RingFit r → sample_loop h margin before ccw r ≡ gives out → AllFit out
 unfolding sample_loop
 loop_gives h margin before ccw r out f e =
-    let q = loop_ring ccw r in
-    let got = placed h margin q q.size in
-    let number = first_true (test 7 (ltb q.size 3) ∷ test 10 (ltb front_node_limit (before + planned h margin q)) ∷ test 8 (ltb (length got / 2) 4) ∷ test 9 (eqb (length got / 2 % 2) 1) ∷ []) in
-    let all = numbered_gives number got out e in
-    subst AllFit all.1 (placed_fit h margin (loop_ring ccw r) (loop_fit ccw r f) (loop_ring ccw r).size)
+    let q = loop_ring h ccw r in
+    let number = first_true (test 7 (ltb q.size 3) ∷ test 10 (ltb front_node_limit (before + planned h margin q)) ∷ []) in
+    subst AllFit (numbered_gives number (placed h margin q q.size) out e).1 (placed_fit h margin q (loop_fit h ccw r f) q.size)
 
 -- ---- loop after loop
 
@@ -128,10 +129,10 @@ rings_fit coords (n ∷ loops) h = (ring_of_lem coords n h, rings_fit (drop (n *
 from_fit : (h margin : Float) (before : ℕ) (ccw : Bool) (s : State) (rs : List Ring) (t : State) → sample_from h margin before ccw s rs ≡ gives t → EachFit rs → AllFit s.points → AllFit t.points
 unfolding sample_from with_loop
 from_fit h margin before ccw s [] t e w a = subst (λ (u : State). AllFit u.points) (gives_same e) a
-from_fit h margin before ccw s (r ∷ rs) t e w a = go (sample_loop h margin before ccw r) refl (λ out d b. from_fit h margin (before + planned h margin (loop_ring ccw r)) false (with_loop s out) rs t d w.1 b)
+from_fit h margin before ccw s (r ∷ rs) t e w a = go (sample_loop h margin before ccw r) refl (λ out d b. from_fit h margin (before + planned h margin (loop_ring h ccw r)) false (with_loop s out) rs t d w.1 b)
   where
     go : (x : Outcome (List Float)) → sample_loop h margin before ccw r ≡ x
-        → ((out : List Float) → sample_from h margin (before + planned h margin (loop_ring ccw r)) false (with_loop s out) rs ≡ gives t → AllFit (with_loop s out).points → AllFit t.points)
+        → ((out : List Float) → sample_from h margin (before + planned h margin (loop_ring h ccw r)) false (with_loop s out) rs ≡ gives t → AllFit (with_loop s out).points → AllFit t.points)
         → AllFit t.points
     go (refused k) d rest = absurd (not_both (rw (d, sample_from) at e))
     go (gives out) d rest = rest out (rw (d, sample_from) at e) (unfold with_loop in fit_append s.points out a (loop_gives h margin before ccw r out w.0 d))

@@ -72,10 +72,10 @@ module _ (s : State) (even : length s.points ≡ nodes s * 2) (fair : Fair s) (l
 from_none : (h m : Float) (before : ℕ) (ccw : Bool) (s : State) (rs : List Ring) (t : State) → sample_from h m before ccw s rs ≡ gives t → t.passes ≡ s.passes
 unfolding sample_from with_loop
 from_none h m before ccw s [] t e = ap (λ (u : State). u.passes) (sym (gives_same e))
-from_none h m before ccw s (r ∷ rs) t e = go (sample_loop h m before ccw r) refl (λ out d. from_none h m (before + planned h m (loop_ring ccw r)) false (with_loop s out) rs t d)
+from_none h m before ccw s (r ∷ rs) t e = go (sample_loop h m before ccw r) refl (λ out d. from_none h m (before + planned h m (loop_ring h ccw r)) false (with_loop s out) rs t d)
   where
     go : (x : Outcome (List Float)) → sample_loop h m before ccw r ≡ x
-        → ((out : List Float) → sample_from h m (before + planned h m (loop_ring ccw r)) false (with_loop s out) rs ≡ gives t → t.passes ≡ s.passes)
+        → ((out : List Float) → sample_from h m (before + planned h m (loop_ring h ccw r)) false (with_loop s out) rs ≡ gives t → t.passes ≡ s.passes)
         → t.passes ≡ s.passes
     go (refused k) d rest = absurd (not_both (rw (d, sample_from) at e))
     go (gives out) d rest = rest out (rw (d, sample_from) at e)

@@ -11,7 +11,7 @@ use lib.Seq.{drop-cons, drop-length}
 use Rattle.std.proofs.Common.{Result, Ok, Err}
 use Rattle.state.specs.declared.Counts.{Counts}
 use Rattle.state.specs.declared.refusal.Refusal.{Refusal}
-use Rattle.state.specs.declared.refusal.Refusal.TheVariants.{Shape, Size, Options, OuterLoop, Coordinate, Area, FewPoints, FewNodes, OddNodes, ManyNodes, NoFront, Full, Row, Fronts, FanFront, State as Wrong, Centre, Corner}
+use Rattle.state.specs.declared.refusal.Refusal.TheVariants.{Shape, Size, Options, OuterLoop, Coordinate, Area, FewPoints, ManyNodes, NoFront, Full, Row, Fronts, FanFront, State as Wrong, Centre, Corner}
 use Rattle.state.specs.Refusals.{answered, number}
 use Rattle.state.specs.State.{State, Held, written, reading}
 use Rattle.state.specs.Outcome.{Outcome, refused, gives}
@@ -152,8 +152,6 @@ not_full OuterLoop n = refl
 not_full Coordinate n = refl
 not_full Area n = refl
 not_full FewPoints n = refl
-not_full FewNodes n = refl
-not_full OddNodes n = refl
 not_full ManyNodes n = refl
 not_full NoFront n = refl
 not_full Row n = refl

@@ -1,12 +1,12 @@
--- The numbers 7, 10, 8 and 9 of a loop, and which side gets one more inner point.
+-- The numbers 7 and 10 of a loop, and which side gets one more inner point.
 use mathlib.Core.Path.{◌≡◌, refl, sym, ap}
 use mathlib.Core.Bool.{Bool, true, false, cond, ◌&&◌}
 use mathlib.Core.List.{List, [], ◌∷◌}
-use Prim.Native.Nat.{ℕ, ◌+◌, ◌*◌, ◌/◌, ◌%◌, ◌≤◌, ◌<◌, min}
+use Prim.Native.Nat.{ℕ, ◌+◌, ◌%◌, ◌≤◌, ◌<◌, min}
 use native.Mathlib.Omega.{arith}
 use lib.Dec.{eqb, ltb}
 use lib.Ieee.{Float}
-use borrow.Author.Tests.{lt-ltb, le-ltb, eq-eqb, eqb-false, eqb-true, ne_eqb}
+use borrow.Author.Tests.{lt-ltb, le-ltb, eqb-false, eqb-true, ne_eqb}
 use Rattle.geometry.specs.Rings.{Ring}
 use Rattle.state.specs.Limits.{front_node_limit}
 use Rattle.state.specs.Outcome.{Outcome, refused, gives, first_true, test, outcome}
@@ -16,35 +16,22 @@ use Rattle.std.specs.Prelude.{Result, Option, Some}
 use Rattle.std.specs.Bool.{then_some}
 use Rattle.std.specs.Option.{option_eq}
 use Rattle.state.specs.declared.refusal.Refusal.{Refusal}
-use Rattle.placing.specs.declared.one_loop.LoopNodes.{LoopNodes}
 use Rattle.placing.specs.Loop.{sample_loop}
 use Rattle.placing.specs.Placing.{MadeIs, placed_outcome}
 
--- ---- the tests, over the nodes planned with those before and the coordinates placed
+-- ---- the test of number 10, over the nodes planned with those before
 
-module _ {A : Type 0} (x l : ℕ) (out : A) where
+module _ {A : Type 0} (x : ℕ) (out : A) where
   abbrev tested : Outcome A
-  tested = outcome (first_true (test 10 (ltb front_node_limit x) ∷ test 8 (ltb (l / 2) 4) ∷ test 9 (eqb (l / 2 % 2) 1) ∷ [])) out
+  tested = outcome (first_true (test 10 (ltb front_node_limit x) ∷ [])) out
 
   pub ten : front_node_limit < x → tested ≡ refused 10
   unfolding first_true
   ten h = rw (lt-ltb front_node_limit x h)
 
-  module _ (k : ℕ) (few : x ≤ front_node_limit) (e : k * 2 ≡ l) where
-    half : l / 2 ≡ k
-    half = omega arith
-
-    pub eight : k < 4 → tested ≡ refused 8
-    unfolding first_true
-    eight h = rw (le-ltb front_node_limit x few, half, lt-ltb k 4 h)
-
-    pub nine : 4 ≤ k → k % 2 ≡ 1 → tested ≡ refused 9
-    unfolding first_true
-    nine h g = rw (le-ltb front_node_limit x few, half, le-ltb k 4 h, eq-eqb (k % 2) 1 g)
-
-    pub no_number : 4 ≤ k → (k % 2 ≡ 1 → ⊥) → tested ≡ gives out
-    unfolding first_true
-    no_number h g = rw (le-ltb front_node_limit x few, half, le-ltb k 4 h, ne_eqb (k % 2) 1 g)
+  pub no_number : x ≤ front_node_limit → tested ≡ gives out
+  unfolding first_true
+  no_number h = rw (le-ltb front_node_limit x h)
 
 -- ---- the plan
 
@@ -82,15 +69,15 @@ module _ (h corner_margin : Float) (r : Ring) where
 
 -- ---- the loop
 
-module _ (h corner_margin : Float) (before : ℕ) (ccw : Bool) (given r : Ring) (e : loop_ring ccw given ≡ r) where
-  pub seven : r.size < 3 → sample_loop h corner_margin before ccw given ≡ refused 7
+module _ (h corner_margin : Float) (at : ℕ) (ccw : Bool) (given r : Ring) (e : loop_ring h ccw given ≡ r) where
+  pub seven : r.size < 3 → sample_loop h corner_margin at ccw given ≡ refused 7
   unfolding sample_loop first_true
   seven g = rw (e, lt-ltb r.size 3 g)
 
-  not_seven : 3 ≤ r.size → sample_loop h corner_margin before ccw given ≡ placed_outcome h corner_margin before r
+  not_seven : 3 ≤ r.size → sample_loop h corner_margin at ccw given ≡ placed_outcome h corner_margin at r
   unfolding sample_loop first_true
   not_seven g = rw (e, le-ltb r.size 3 g)
 
-  pub of_loop : (at : ℕ) (entry exit : List Float) (made : Result LoopNodes Refusal) → 3 ≤ r.size → MadeIs h corner_margin r before at entry exit (placed_outcome h corner_margin before r) made
-      → MadeIs h corner_margin (loop_ring ccw given) before at entry exit (sample_loop h corner_margin before ccw given) made
-  of_loop at entry exit made g w = rw (not_seven g, e) w
+  pub of_loop : (entry exit : List Float) (made : Result ℕ Refusal) → 3 ≤ r.size → MadeIs h corner_margin r at entry exit (placed_outcome h corner_margin at r) made
+      → MadeIs h corner_margin (loop_ring h ccw given) at entry exit (sample_loop h corner_margin at ccw given) made
+  of_loop entry exit made g w = rw (not_seven g, e) w

@@ -3,19 +3,19 @@ use mathlib.Core.Path.{◌≡◌, refl, sym, ap, ◌∙◌}
 use mathlib.Core.Bool.{Bool, true, false, cond, ◌&&◌}
 use mathlib.Core.List.{List, [], ◌∷◌, ◌++◌}
 use Prim.Native.Nat.{ℕ, zero, suc, ◌+◌, ◌-◌, ◌*◌, ◌%◌, ◌≤◌, ◌<◌}
-use native.Mathlib.Nat.{add-zero, add-suc, le_trans, le_of_eq}
+use native.Mathlib.Nat.{add-zero, add-suc}
 use native.Mathlib.Numerals.{add-one}
 use native.Mathlib.Omega.{arith}
 use lib.ListN.{length, set, length-append}
 use lib.Dec.{eqb, ltb}
 use lib.Seq.{sets}
-use lib.Ieee.{Float, le}
+use lib.Ieee.{Float, lt}
 use borrow.Author.Tests.{lt-ltb, le-ltb, ltb-true, ltb-false, eqb-true, eqb-false}
 use Rattle.float.specs.Helpers.{decimal}
 use Rattle.geometry.specs.declared.Point.{Point}
 use Rattle.geometry.specs.Rings.{Ring, next}
 use Rattle.planning.specs.Plan.{margin, side_at, span, inner, inner_sum, longest, total, planned, parts}
-use Rattle.placing.specs.Placed.{inner_point, inner_points, placed_on, placed}
+use Rattle.placing.specs.Placed.{inner_point, inner_points, placed}
 use Rattle.placing.specs.Placing.{between, betweens}
 use Rattle.state.proofs.Stores.{sets-append, point-behind}
 
@@ -53,32 +53,24 @@ module _ (h corner_margin : Float) (r : Ring) where
   -- ---- one side
 
   abbrev side_nodes : ℕ → List Float
-  side_nodes i = (r.at i).x ∷ (r.at i).y ∷ inner_points h corner_margin r i (parts h corner_margin r i) (placed_on h corner_margin r i)
+  side_nodes i = (r.at i).x ∷ (r.at i).y ∷ inner_points h corner_margin r i (parts h corner_margin r i) (parts h corner_margin r i)
 
-  -- a side of length at most 1e-12: its start alone
-  pub short_side : (i at : ℕ) (l : Float) (a : Point) (d p : List Float) → l ≡ side_at r i → le l (decimal 1 12) ≡ true → a ≡ r.at i
-      → p ≡ set (set d (at * 2) a.x) (at * 2 + 1) a.y → (1 ≡ placed_on h corner_margin r i + 1) × (p ≡ sets d (at * 2) (side_nodes i))
-  unfolding placed_on inner_points
-  short_side i at l a d p hl hs ha hp = rw (← hl, hs, ← ha) (refl, hp ∙ rw add-one)
-
-  -- one that gets no inner points
-  pub bare_side : (i at k : ℕ) (l : Float) (a : Point) (d p : List Float) → l ≡ side_at r i → le l (decimal 1 12) ≡ false → k ≡ parts h corner_margin r i → k ≡ 0 → a ≡ r.at i
-      → p ≡ set (set d (at * 2) a.x) (at * 2 + 1) a.y → (1 ≡ placed_on h corner_margin r i + 1) × (p ≡ sets d (at * 2) (side_nodes i))
-  unfolding placed_on inner_points
-  bare_side i at k l a d p hl hs hk hz ha hp = rw (← hl, hs, ← hk, hz, ← ha) (refl, hp ∙ rw add-one)
+  -- a side that gets no inner points: its start alone
+  pub bare_side : (i at k : ℕ) (a : Point) (d p : List Float) → k ≡ parts h corner_margin r i → k ≡ 0 → a ≡ r.at i
+      → p ≡ set (set d (at * 2) a.x) (at * 2 + 1) a.y → (1 ≡ parts h corner_margin r i + 1) × (p ≡ sets d (at * 2) (side_nodes i))
+  unfolding inner_points
+  bare_side i at k a d p hk hz ha hp = rw (← hk, hz, ← ha) (refl, hp ∙ rw add-one)
 
   -- any other: its start and its inner points
-  pub long_side : (i j at k : ℕ) (l m s : Float) (a b : Point) (d p p' : List Float) → l ≡ side_at r i → le l (decimal 1 12) ≡ false → j ≡ next r.size i → a ≡ r.at i → b ≡ r.at j
+  pub long_side : (i j at k : ℕ) (l m s : Float) (a b : Point) (d p p' : List Float) → l ≡ side_at r i → j ≡ next r.size i → a ≡ r.at i → b ≡ r.at j
       → m ≡ margin h corner_margin r i → s ≡ span h corner_margin r i → k ≡ parts h corner_margin r i
       → p ≡ set (set d (at * 2) a.x) (at * 2 + 1) a.y → p' ≡ sets p ((at + 1) * 2) (betweens a b l m s k k)
-      → (k + 1 ≡ placed_on h corner_margin r i + 1) × (p' ≡ sets d (at * 2) (side_nodes i))
-  unfolding placed_on
-  long_side i j at k l m s a b d p p' hl hf hj ha hb hm hs hk hp hp' =
+      → (k + 1 ≡ parts h corner_margin r i + 1) × (p' ≡ sets d (at * 2) (side_nodes i))
+  long_side i j at k l m s a b d p p' hl hj ha hb hm hs hk hp hp' =
       let w = betweens (r.at i) (r.at (next r.size i)) (side_at r i) (margin h corner_margin r i) (span h corner_margin r i) (parts h corner_margin r i) (parts h corner_margin r i) in
-      let g : le (side_at r i) (decimal 1 12) ≡ false = rw hl at hf in
       let e : p' ≡ sets (set (set d (at * 2) (r.at i).x) (suc (at * 2)) (r.at i).y) (suc (suc (at * 2))) w =
       hp' ∙ rw (hp, hl, hm, hs, hk, ha, hb, hj, add-one (at * 2), second at) in
-      rw g (ap (λ (n : ℕ). n + 1) hk, e ∙ ap (λ (v : List Float). sets d (at * 2) ((r.at i).x ∷ (r.at i).y ∷ v)) (sym (same_inner i (parts h corner_margin r i) (parts h corner_margin r i))))
+      (ap (λ (n : ℕ). n + 1) hk, e ∙ ap (λ (v : List Float). sets d (at * 2) ((r.at i).x ∷ (r.at i).y ∷ v)) (sym (same_inner i (parts h corner_margin r i) (parts h corner_margin r i))))
     where
       second : (at : ℕ) → (at + 1) * 2 ≡ suc (suc (at * 2))
       second at = omega arith
@@ -94,28 +86,20 @@ module _ (h corner_margin : Float) (r : Ring) where
       place : (at n l : ℕ) → n * 2 ≡ l → (at + n) * 2 ≡ at * 2 + l
       place at n l e = omega arith
 
-  length_placed : (i : ℕ) → length (placed h corner_margin r (suc i)) ≡ length (placed h corner_margin r i) + (placed_on h corner_margin r i + 1) * 2
+  length_placed : (i : ℕ) → length (placed h corner_margin r (suc i)) ≡ length (placed h corner_margin r i) + (parts h corner_margin r i + 1) * 2
   unfolding placed
-  length_placed i = length-append (placed h corner_margin r i) (side_nodes i) ∙ ap (λ (n : ℕ). length (placed h corner_margin r i) + suc (suc n)) (length_inner i (parts h corner_margin r i) (placed_on h corner_margin r i)) ∙ sum (length (placed h corner_margin r i)) (placed_on h corner_margin r i)
+  length_placed i = length-append (placed h corner_margin r i) (side_nodes i) ∙ ap (λ (n : ℕ). length (placed h corner_margin r i) + suc (suc n)) (length_inner i (parts h corner_margin r i) (parts h corner_margin r i)) ∙ sum (length (placed h corner_margin r i)) (parts h corner_margin r i)
     where
       sum : (l k : ℕ) → l + suc (suc (k * 2)) ≡ l + (k + 1) * 2
       sum l k = omega arith
 
-  pub count_step : (i n more : ℕ) → n * 2 ≡ length (placed h corner_margin r i) → more ≡ placed_on h corner_margin r i + 1 → (n + more) * 2 ≡ length (placed h corner_margin r (i + 1))
-  count_step i n more e f = rw add-one (sum n more (length (placed h corner_margin r i)) (placed_on h corner_margin r i) e f ∙ sym (length_placed i))
+  pub count_step : (i n more : ℕ) → n * 2 ≡ length (placed h corner_margin r i) → more ≡ parts h corner_margin r i + 1 → (n + more) * 2 ≡ length (placed h corner_margin r (i + 1))
+  count_step i n more e f = rw add-one (sum n more (length (placed h corner_margin r i)) (parts h corner_margin r i) e f ∙ sym (length_placed i))
     where
       sum : (n m l k : ℕ) → n * 2 ≡ l → m ≡ k + 1 → (n + m) * 2 ≡ l + (k + 1) * 2
       sum n m l k e f = omega arith
 
-  -- ---- no more nodes are placed than planned
-
-  pub placed_few : (i : ℕ) → placed_on h corner_margin r i ≤ parts h corner_margin r i
-  unfolding placed_on
-  placed_few i = go (le (side_at r i) (decimal 1 12)) (parts h corner_margin r i)
-    where
-      go : (b : Bool) (k : ℕ) → cond b 0 k ≤ k
-      go true k = omega arith
-      go false k = omega arith
+  -- ---- the nodes placed are the nodes planned
 
   -- the added inner points of the first i sides
   abbrev odd : Bool
@@ -190,16 +174,13 @@ module _ (h corner_margin : Float) (r : Ring) where
       go m true e false = omega arith
       go m false e b = omega arith
 
-  length_few : (i : ℕ) → length (placed h corner_margin r i) ≤ (i + parts_sum i) * 2
+  length_is : (i : ℕ) → length (placed h corner_margin r i) ≡ (i + parts_sum i) * 2
   unfolding parts_sum
-  length_few zero = unfold placed in low (parts_sum 0)
+  length_is zero = unfold placed in refl
+  length_is (suc i) = rw (length_placed i) (more (length (placed h corner_margin r i)) (parts h corner_margin r i) i (parts_sum i) (length_is i))
     where
-      low : (n : ℕ) → 0 ≤ (0 + n) * 2
-      low n = omega arith
-  length_few (suc i) = rw (length_placed i) (more (length (placed h corner_margin r i)) (placed_on h corner_margin r i) (parts h corner_margin r i) i (parts_sum i) (length_few i) (placed_few i))
-    where
-      more : (l k p i s : ℕ) → l ≤ (i + s) * 2 → k ≤ p → l + (k + 1) * 2 ≤ (suc i + (s + p)) * 2
-      more l k p i s e f = omega arith
+      more : (l p i s : ℕ) → l ≡ (i + s) * 2 → l + (p + 1) * 2 ≡ (suc i + (s + p)) * 2
+      more l p i s e = omega arith
 
   -- there is room for the next side
   pub room : (i n : ℕ) → i < r.size → n * 2 ≡ length (placed h corner_margin r i) → n + 1 + parts h corner_margin r i ≤ planned h corner_margin r
@@ -207,10 +188,48 @@ module _ (h corner_margin : Float) (r : Ring) where
   room i n l e =
       let d = r.size - suc i in
       fits n i r.size (parts_sum i) (parts h corner_margin r i) (inner_sum h corner_margin r (suc i)) (inner_sum h corner_margin r r.size) (cond (odd && ltb best (suc i)) 1 0) (total h corner_margin r % 2)
-      l (le_trans (le_of_eq e) (length_few i)) (parts-sum (suc i)) (rw (back i r.size l) at (mono (suc i) d)) (added (ltb best (suc i)))
+      l (e ∙ length_is i) (parts-sum (suc i)) (rw (back i r.size l) at (mono (suc i) d)) (added (ltb best (suc i)))
     where
       back : (i n : ℕ) → i < n → suc i + (n - suc i) ≡ n
       back i n h = omega arith
 
-      fits : (n i z s p a b c m : ℕ) → i < z → n * 2 ≤ (i + s) * 2 → s + p ≡ a + c → a ≤ b → c ≤ m → n + 1 + p ≤ z + b + m
+      fits : (n i z s p a b c m : ℕ) → i < z → n * 2 ≡ (i + s) * 2 → s + p ≡ a + c → a ≤ b → c ≤ m → n + 1 + p ≤ z + b + m
       fits n i z s p a b c m p1 p2 p3 p4 p5 = omega arith
+
+  -- the side that gets one more is one of the sides
+  longest_below : (k n : ℕ) → k ≤ n → 0 < n → (longest h corner_margin r k).0 < n
+  unfolding longest
+  longest_below zero n l some = some
+  longest_below (suc k) n l some = go (lt (decimal 0 0) (span h corner_margin r k) && lt (longest h corner_margin r k).1 (side_at r k)) (longest_below k n (omega arith) some)
+    where
+      go : (b : Bool) → (longest h corner_margin r k).0 < n → (cond b (k, side_at r k) (longest h corner_margin r k)).0 < n
+      go true m = omega arith
+      go false m = m
+
+  -- what an odd number adds
+  one_of : (m : ℕ) → m < 2 → cond (eqb m 1 && true) 1 0 ≡ m
+  one_of zero l = refl
+  one_of (suc zero) l = refl
+  one_of (suc (suc m)) l = absurd (omega arith)
+
+  pub placed_planned : 0 < r.size → length (placed h corner_margin r r.size) ≡ planned h corner_margin r * 2
+  unfolding planned
+  placed_planned some =
+      let below : ltb best r.size ≡ true = lt-ltb best r.size (longest_below r.size r.size (omega arith) some) in
+      let parity : cond (odd && ltb best r.size) 1 0 ≡ total h corner_margin r % 2 = rw below (one_of (total h corner_margin r % 2) (omega arith)) in
+      length_is r.size ∙ whole r.size (parts_sum r.size) (inner_sum h corner_margin r r.size) _ (total h corner_margin r) (parts-sum r.size) parity (unfold total in refl)
+    where
+      whole : (z p s c t : ℕ) → p ≡ s + c → c ≡ t % 2 → t ≡ z + s → (z + p) * 2 ≡ (t + t % 2) * 2
+      whole z p s c t e f g = omega arith
+
+  -- even, and at least four where the ring has three points
+  pub planned_even : planned h corner_margin r % 2 ≡ 0
+  unfolding planned
+  planned_even = omega arith
+
+  pub planned_four : 3 ≤ r.size → 4 ≤ planned h corner_margin r
+  unfolding planned total
+  planned_four l = go r.size (inner_sum h corner_margin r r.size) l
+    where
+      go : (z s : ℕ) → 3 ≤ z → 4 ≤ z + s + (z + s) % 2
+      go z s l = omega arith

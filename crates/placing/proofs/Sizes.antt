@@ -1,12 +1,12 @@
 -- How far sampling can place a node: coordinates within 1,000,000, h up to 1,000,000 and a corner margin up to 100 give nodes within 419,777,216.
 use mathlib.Core.Path.{◌≡◌, refl, subst}
 use mathlib.Core.Logic.{inl, inr}
-use mathlib.Core.Bool.{Bool, true, false, cond, ◌&&◌, ◌||◌, beq}
-use mathlib.Core.List.{List, [], ◌∷◌, ◌++◌}
-use Prim.Native.Nat.{ℕ, zero, suc, ◌+◌, ◌-◌, ◌*◌, ◌/◌, ◌^◌, ◌≤◌, ◌<◌}
+use mathlib.Core.Bool.{Bool, true, false, cond}
+use mathlib.Core.List.{List, [], ◌∷◌}
+use Prim.Native.Nat.{ℕ, zero, suc, ◌+◌, ◌*◌, ◌^◌, ◌≤◌, ◌<◌}
 use native.Mathlib.Numerals.{add-one}
 use native.Mathlib.Omega.{arith}
-use lib.Dec.{T, ltb, lit<, lit≤}
+use lib.Dec.{T, lit<, lit≤}
 use lib.ListN.{length}
 use lib.IntN.{pos}
 use lib.Ieee.{Float, binary64, of_int, lt, eq, le}
@@ -18,58 +18,23 @@ use Rattle.float.proofs.Within.{Within, NotNegative, within_less, whole_exact, r
 use Rattle.float.proofs.Lengths.{tiny_long, along_within}
 use Rattle.geometry.specs.F64.{◌⊕◌, ◌⊖◌, ◌⊗◌, ◌⊘◌}
 use Rattle.geometry.specs.declared.Point.{Point}
-use Rattle.geometry.specs.Rings.{Ring, point_at, ring_of, next}
-use Rattle.geometry.specs.Measures.{signed_area, sharp_at}
-use Rattle.geometry.proofs.Sizes.{All, all_none, all_two, all_more, all_append, PointWithin, RingWithin, point_at_lem, next_in, toward_within, side_long, side_x, side_y, side_within}
+use Rattle.geometry.specs.Rings.{Ring, next}
+use Rattle.geometry.specs.Measures.{sharp_at}
+use Rattle.geometry.proofs.Sizes.{All, all_none, all_two, all_more, all_append, PointWithin, RingWithin, next_in, toward_within, side_long, side_x, side_y, side_within}
 use Rattle.state.specs.Limits.{front_node_limit}
 use Rattle.state.specs.Outcome.{gives}
 use Rattle.state.proofs.Basics.{or_false}
 use Rattle.state.proofs.Outcomes.{first_none, numbered_gives}
-use Rattle.planning.specs.Ring.{close, kept, unclosed, reversed, turned, loop_ring}
+use Rattle.planning.specs.Ring.{loop_ring}
 use Rattle.planning.specs.Plan.{side_at, margin, span, planned, parts}
-use Rattle.placing.specs.Placed.{inner_point, inner_points, placed_on, placed}
+use Rattle.placing.specs.Placed.{inner_point, inner_points, placed}
 use Rattle.placing.specs.Loop.{sample_loop}
+use Rattle.planning.proofs.Apart.{ring_within, sides_long}
 use Rattle.placing.proofs.Placing.{count_step, room}
 
--- ---- a loop's ring has only points that were given
-kept_all : (n : ℕ) (r : Ring) (k : ℕ) → k ≤ r.size → RingWithin n r → All n (kept r k)
-unfolding kept
-kept_all n r zero l h = all_none n
-kept_all n r (suc k) l h = go (ltb 0 (length (kept r k)) && close (point_at (kept r k) (length (kept r k) / 2 - 1)) (r.at k)) (kept_all n r k (omega arith) h)
-  where
-    go : (b : Bool) → All n (kept r k) → All n (cond b (kept r k) (kept r k ++ ((r.at k).x ∷ (r.at k).y ∷ [])))
-    go true a = a
-    go false a = let p = h k (omega arith) in all_append n (kept r k) ((r.at k).x ∷ (r.at k).y ∷ []) a (all_two n (r.at k).x (r.at k).y p.x p.y)
-
-unclosed_few : (q : List Float) (m : ℕ) → unclosed q m ≤ m
-unfolding unclosed
-unclosed_few q zero = omega arith
-unclosed_few q (suc zero) = omega arith
-unclosed_few q (suc (suc m)) = go (close (point_at q 0) (point_at q (suc m))) (unclosed_few q (suc m))
-  where
-    go : (b : Bool) → unclosed q (suc m) ≤ suc m → cond b (unclosed q (suc m)) (suc (suc m)) ≤ suc (suc m)
-    go true l = omega arith
-    go false l = omega arith
-
-pub ring_within : (n : ℕ) (ccw : Bool) (r : Ring) → RingWithin n r → RingWithin n (loop_ring ccw r)
-unfolding loop_ring turned
-ring_within n ccw r h = go (beq (lt (decimal 0 0) (signed_area given)) ccw)
-  where
-    q : List Float
-    q = kept r r.size
-
-    given : Ring
-    given = ring_of q (unclosed q (length q / 2))
-
-    here : RingWithin n given
-    here i l = point_at_lem n q i (omega (arith, unclosed_few q (length q / 2))) (kept_all n r r.size (omega arith) h)
-
-    go : (b : Bool) → RingWithin n (cond b given (reversed given))
-    go true = here
-    go false = λ i l. here (unclosed q (length q / 2) - 1 - i) (omega arith)
-
 -- ---- a side's nodes
-module _ (h corner_margin : Float) (r : Ring) (hw : Within 1000000 h) (hc : T (clear h)) (cw : Within 100 corner_margin) (cn : NotNegative corner_margin) (ring : RingWithin 1000000 r) where
+module _ (h corner_margin : Float) (r : Ring) (hw : Within 1000000 h) (hc : T (clear h)) (cw : Within 100 corner_margin) (cn : NotNegative corner_margin) (ring : RingWithin 1000000 r)
+    (long : (i : ℕ) → i < r.size → le (side_at r i) (decimal 1 12) ≡ false) where
   margin_within : (i : ℕ) → Within 100000000 (margin h corner_margin r i)
   unfolding margin
   margin_within i = go (sharp_at r i)
@@ -106,6 +71,10 @@ module _ (h corner_margin : Float) (r : Ring) (hw : Within 1000000 h) (hc : T (c
     b_within : PointWithin 1000000 b
     b_within = ring (next r.size i) (next_in r.size i l)
 
+    not_short : lt (side_at r i) (decimal 1 12) ≡ false
+    unfolding le
+    not_short = (or_false (lt (side_at r i) (decimal 1 12)) (eq (side_at r i) (decimal 1 12)) (long i l)).0
+
     span_within : Within 4194304 (span h corner_margin r i)
     unfolding span
     span_within =
@@ -127,14 +96,14 @@ module _ (h corner_margin : Float) (r : Ring) (hw : Within 1000000 h) (hc : T (c
           add_within 104194304 (lit≤ tt) m (span h corner_margin r i ⊗ (of_int binary64 (pos j) ⊕ decimal 5 1) ⊘ of_int binary64 (pos k)) 100000000 4194304 (lit≤ tt) (margin_within i)
           (div_whole (span h corner_margin r i ⊗ (of_int binary64 (pos j) ⊕ decimal 5 1)) 4194304 k (lit≤ tt) (omega arith) (omega arith) part)
 
-      point_within : lt (side_at r i) (decimal 1 12) ≡ false → PointWithin 419777216 (inner_point h corner_margin r i k j)
+      point_within : PointWithin 419777216 (inner_point h corner_margin r i k j)
       unfolding inner_point
-      point_within long =
+      point_within =
           let two : 1000000 + 1000000 ≤ 2 ^ 53 = lit≤ tt in
           let w = toward_within 1000000 two a b a_within b_within in
-          let s = side_long 1000000 two a b a_within b_within (decimal 1 12) tiny_long long in
-          let x = side_x 1000000 two a b a_within b_within (decimal 1 12) tiny_long long in
-          let y = side_y 1000000 two a b a_within b_within (decimal 1 12) tiny_long long in
+          let s = side_long 1000000 two a b a_within b_within (decimal 1 12) tiny_long not_short in
+          let x = side_x 1000000 two a b a_within b_within (decimal 1 12) tiny_long not_short in
+          let y = side_y 1000000 two a b a_within b_within (decimal 1 12) tiny_long not_short in
           record {
             x = add_within 419777216 (lit≤ tt) a.x (along ⊘ side_at r i ⊗ (b.x ⊖ a.x)) 1000000 418777216 (lit≤ tt) a_within.x
                 (along_within along (b.x ⊖ a.x) (side_at r i) 104194304 2000000 418777216 (lit≤ tt) (lit≤ tt) along_side w.x s x);
@@ -142,13 +111,13 @@ module _ (h corner_margin : Float) (r : Ring) (hw : Within 1000000 h) (hc : T (c
                 (along_within along (b.y ⊖ a.y) (side_at r i) 104194304 2000000 418777216 (lit≤ tt) (lit≤ tt) along_side w.y s y);
           }
 
-    inner_all : (k j : ℕ) → k ≤ front_node_limit → j ≤ k → lt (side_at r i) (decimal 1 12) ≡ false → All 419777216 (inner_points h corner_margin r i k j)
+    inner_all : (k j : ℕ) → k ≤ front_node_limit → j ≤ k → All 419777216 (inner_points h corner_margin r i k j)
     unfolding inner_points
-    inner_all k zero few jk long = all_none 419777216
-    inner_all k (suc j) few jk long =
+    inner_all k zero few jk = all_none 419777216
+    inner_all k (suc j) few jk =
         let p = inner_point h corner_margin r i k j in
-        let w = point_within k j few jk long in
-        all_append 419777216 (inner_points h corner_margin r i k j) (p.x ∷ p.y ∷ []) (inner_all k j few (omega arith) long) (all_two 419777216 p.x p.y w.x w.y)
+        let w = point_within k j few jk in
+        all_append 419777216 (inner_points h corner_margin r i k j) (p.x ∷ p.y ∷ []) (inner_all k j few (omega arith)) (all_two 419777216 p.x p.y w.x w.y)
 
   -- ---- the nodes of the first k sides
   record Placed (k : ℕ) : Type 0 where
@@ -156,40 +125,32 @@ module _ (h corner_margin : Float) (r : Ring) (hw : Within 1000000 h) (hc : T (c
     pub whole : nodes * 2 ≡ length (placed h corner_margin r k)
     pub all : All 419777216 (placed h corner_margin r k)
 
-  side_all : (i : ℕ) → i < r.size → parts h corner_margin r i ≤ front_node_limit → All 419777216 (inner_points h corner_margin r i (parts h corner_margin r i) (placed_on h corner_margin r i))
-  unfolding placed_on inner_points le
-  side_all i l few = go (le (side_at r i) (decimal 1 12)) refl
-    where
-      k : ℕ
-      k = parts h corner_margin r i
-
-      go : (t : Bool) → (lt (side_at r i) (decimal 1 12) || eq (side_at r i) (decimal 1 12)) ≡ t → All 419777216 (inner_points h corner_margin r i k (cond t 0 k))
-      go true e = all_none 419777216
-      go false e = inner_all i l k k few (omega arith) (or_false (lt (side_at r i) (decimal 1 12)) (eq (side_at r i) (decimal 1 12)) e).0
-
   placed_all : planned h corner_margin r ≤ front_node_limit → (k : ℕ) → k ≤ r.size → Placed k
   unfolding placed
   placed_all few zero l = record { nodes = 0; whole = refl; all = all_none 419777216 }
   placed_all few (suc k) l =
       let p = placed_all few k (omega arith) in
       let here = ring k (omega arith) in
-      let side = side_all k (omega arith) (omega (arith, room h corner_margin r k p.nodes (omega arith) p.whole)) in
-      let more = (r.at k).x ∷ (r.at k).y ∷ inner_points h corner_margin r k (parts h corner_margin r k) (placed_on h corner_margin r k) in
+      let j = parts h corner_margin r k in
+      let side = inner_all k (omega arith) j j (omega (arith, room h corner_margin r k p.nodes (omega arith) p.whole)) (omega arith) in
+      let more = (r.at k).x ∷ (r.at k).y ∷ inner_points h corner_margin r k j j in
       record {
-        nodes = p.nodes + (placed_on h corner_margin r k + 1);
-        whole = rw (add-one k) at (count_step h corner_margin r k p.nodes (placed_on h corner_margin r k + 1) p.whole refl);
+        nodes = p.nodes + (j + 1);
+        whole = rw (add-one k) at (count_step h corner_margin r k p.nodes (j + 1) p.whole refl);
         all = all_append 419777216 (placed h corner_margin r k) more p.all
             (all_more 419777216 (r.at k).x (r.at k).y _ (within_less (r.at k).x (lit≤ tt) here.x) (within_less (r.at k).y (lit≤ tt) here.y) side);
       }
 
 -- ---- one loop
-pub loop_all : (h corner_margin : Float) → Within 1000000 h → T (clear h) → Within 100 corner_margin → NotNegative corner_margin
+pub loop_all : (h corner_margin : Float) → T (le (decimal 1 3) h) → Within 1000000 h → T (clear h) → Within 100 corner_margin → NotNegative corner_margin
     → (before : ℕ) (ccw : Bool) (given : Ring) (out : List Float) → RingWithin 1000000 given → sample_loop h corner_margin before ccw given ≡ gives out → All 419777216 out
 unfolding sample_loop
-loop_all h corner_margin hw hc cw cn before ccw given out g e =
-    let r = loop_ring ccw given in
+loop_all h corner_margin hl hw hc cw cn before ccw given out g e =
+    let r = loop_ring h ccw given in
     let got = placed h corner_margin r r.size in
     let all = numbered_gives _ got out e in
-    let ten = first_none 9 _ _ (first_none 6 _ _ all.0).1 in
-    let few = ltb-false front_node_limit (before + planned h corner_margin r) ten.0 in
-    subst (All 419777216) all.1 (placed_all h corner_margin r hw hc cw cn (ring_within 1000000 ccw given g) (omega arith) r.size (omega arith)).all
+    let seven = first_none 6 _ _ all.0 in
+    let three = ltb-false r.size 3 seven.0 in
+    let few = ltb-false front_node_limit (before + planned h corner_margin r) (first_none 9 _ _ seven.1).0 in
+    subst (All 419777216) all.1
+    (placed_all h corner_margin r hw hc cw cn (ring_within 1000000 h ccw given g) (sides_long h hl hw given g ccw (omega arith)) (omega arith) r.size (omega arith)).all

@@ -1,7 +1,7 @@
 -- A planned loop's nodes placed (the second half of `sample_loop`), in the order of the Rust's operations. Definitions only.
-use Rattle.std.specs.Prelude.{ℕ, zero, suc, cond, List, [], ◌∷◌, ◌++◌, pos, Float}
+use Rattle.std.specs.Prelude.{ℕ, zero, suc, List, [], ◌∷◌, ◌++◌, pos, Float}
 use Rattle.std.specs.Float.{binary64}
-use Rattle.std.specs.Float.Ieee.{of_int, le}
+use Rattle.std.specs.Float.Ieee.{of_int}
 use Rattle.float.specs.Helpers.{decimal}
 use Rattle.geometry.specs.F64.{◌⊕◌, ◌⊖◌, ◌⊗◌, ◌⊘◌}
 use Rattle.geometry.specs.declared.Point.{Point}
@@ -22,11 +22,8 @@ module _ (h corner_margin : Float) (r : Ring) where
   inner_points i k zero = []
   inner_points i k (suc j) = let p = inner_point i k j in inner_points i k j ++ (p.x ∷ p.y ∷ [])
 
-  -- a side of length at most 1e-12 gets none
-  unfoldable pub placed_on : ℕ → ℕ
-  placed_on i = cond (le (side_at r i) (decimal 1 12)) 0 (parts h corner_margin r i)
-
-  -- the nodes of the first k sides: each side's start and its inner points
+  -- The nodes of the first k sides: each side's start and its inner points. The Rust gives none to a side of length at most
+  -- 1e-12; no side is as short (`LoopsPlaced` of rules), so the rule is left out.
   unfoldable pub placed : ℕ → List Float
   placed zero = []
-  placed (suc k) = placed k ++ ((r.at k).x ∷ (r.at k).y ∷ inner_points k (parts h corner_margin r k) (placed_on k))
+  placed (suc k) = placed k ++ ((r.at k).x ∷ (r.at k).y ∷ inner_points k (parts h corner_margin r k) (parts h corner_margin r k))

@@ -68,8 +68,8 @@ fn parts_of(inner: usize, i: usize, longer: Option<usize>) -> usize
     inner + usize::from(longer == Some(i))
 }
 
-// Writes the start of the side from place `i` and its inner points, from place `at` on; a side of length at most
-// 1e-12 gets no inner points. Answers how many nodes are written.
+// Writes the start of the side from place `i` and its inner points, from place `at` on; answers how many nodes they are. Of an
+// accepted job no length is 0: the points of a loop's ring are apart.
 fn place_side(
     ring: LoopRing<'_>,
     spacing: Spacing,
@@ -83,18 +83,15 @@ fn place_side(
     requires n_bound { (i < ring.n) × (length ≡ plans.side_at (read_ring ring) i) × (span ≡ plans.span spacing.h spacing.corner_margin (read_ring ring) i) }
     requires i_value { plans.parts spacing.h spacing.corner_margin (read_ring ring) i ≡ plans.inner spacing.h spacing.corner_margin (read_ring ring) i + cond (option_eq eqb longer (Some i)) 1 0 }
     requires i_bound { (at + 1 + plans.parts spacing.h spacing.corner_margin (read_ring ring) i ≤ front_node_limit) × (front_node_limit * 2 ≤ lists.length points.old) }
-    ensures { (result ≡ laid.placed_on spacing.h spacing.corner_margin (read_ring ring.entry) i + 1)
+    ensures { (result ≡ plans.parts spacing.h spacing.corner_margin (read_ring ring.entry) i + 1)
         × (points.new ≡ sets points.old (at * 2)
         (((read_ring ring.entry).at i).x ∷ ((read_ring ring.entry).at i).y
         ∷ laid.inner_points spacing.h spacing.corner_margin (read_ring ring.entry) i
         (plans.parts spacing.h spacing.corner_margin (read_ring ring.entry) i)
-        (laid.placed_on spacing.h spacing.corner_margin (read_ring ring.entry) i))) }
+        (plans.parts spacing.h spacing.corner_margin (read_ring ring.entry) i))) }
 {
     let a = ring.at(i);
     geometry::put_point(points, at, a.x, a.y);
-    if length <= 1e-12 {
-        return 1;
-    }
     let parts = parts_of(inner_of(span, spacing.h), i, longer);
     if parts == 0 {
         return 1;
@@ -113,7 +110,7 @@ fn place_side(
     parts + 1
 }
 
-// Writes the loop's nodes from place `at` on, with one more inner point on the side `longer`; answers how many.
+// Writes the loop's nodes from place `at` on, with one more inner point on the side `longer`.
 pub fn place(
     ring: LoopRing<'_>,
     spacing: Spacing,
@@ -122,15 +119,13 @@ pub fn place(
     longer: Option<usize>,
     points: &mut [f64],
     at: usize,
-) -> usize
+)
     requires n_bound { (ring.n ≤ lists.length lengths.now) × (ring.n ≤ lists.length spans.now) }
     requires by_index { (i : ℕ) → i < ring.n → lists.get_or lengths.now i nan ≡ plans.side_at (read_ring ring) i }
     requires by_index_2 { (i : ℕ) → i < ring.n → lists.get_or spans.now i nan ≡ plans.span spacing.h spacing.corner_margin (read_ring ring) i }
     requires by_index_3 { (i : ℕ) → i < ring.n → plans.parts spacing.h spacing.corner_margin (read_ring ring) i ≡ plans.inner spacing.h spacing.corner_margin (read_ring ring) i + cond (option_eq eqb longer (Some i)) 1 0 }
     requires n_bound_2 { (at + plans.planned spacing.h spacing.corner_margin (read_ring ring) ≤ front_node_limit) × (front_node_limit * 2 ≤ lists.length points.old) }
-    ensures { (result * 2 ≡ lists.length (laid.placed spacing.h spacing.corner_margin (read_ring ring.entry) ring.entry.n))
-        × (result ≤ plans.planned spacing.h spacing.corner_margin (read_ring ring.entry))
-        × (points.new ≡ sets points.old (at * 2) (laid.placed spacing.h spacing.corner_margin (read_ring ring.entry) ring.entry.n)) }
+    ensures { points.new ≡ sets points.old (at * 2) (laid.placed spacing.h spacing.corner_margin (read_ring ring.entry) ring.entry.n) }
 {
     let mut placed = 0;
     for i in 0..ring.n {
@@ -145,5 +140,4 @@ pub fn place(
             at + placed,
         );
     }
-    placed
 }

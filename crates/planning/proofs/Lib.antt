@@ -3,3 +3,4 @@ pub mod Keeping
 pub mod Turning
 pub mod Measuring
 pub mod Planning
+pub mod Apart

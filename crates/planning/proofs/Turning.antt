@@ -8,7 +8,7 @@ use lib.Ieee.{Float, lt}
 use Rattle.float.specs.Helpers.{decimal}
 use Rattle.geometry.specs.Rings.{Ring, ring_of}
 use Rattle.geometry.specs.Measures.{signed_area}
-use Rattle.planning.specs.Ring.{kept, unclosed, turned, loop_ring}
+use Rattle.planning.specs.Ring.{closeness, kept, unclosed, turned, loop_ring}
 use Rattle.planning.specs.Backwards.{turned_if}
 
 turn_back : (ccw b : Bool) (r : Ring) → b ≡ not (beq (lt (decimal 0 0) (signed_area r)) ccw) → turned ccw r ≡ turned_if b r
@@ -19,7 +19,7 @@ turn_back ccw b r e = rw e (go (beq (lt (decimal 0 0) (signed_area r)) ccw))
     go true = refl
     go false = refl
 
-pub ring_found : (ccw back : Bool) (r : Ring) (q : List Float) (n : ℕ) → q ≡ kept r r.size → n ≡ unclosed q (length q / 2)
-    → back ≡ not (beq (lt (decimal 0 0) (signed_area (ring_of q n))) ccw) → loop_ring ccw r ≡ turned_if back (ring_of q n)
+pub ring_found : (h : Float) (ccw back : Bool) (r : Ring) (q : List Float) (n : ℕ) → q ≡ kept (closeness h) r r.size → n ≡ unclosed (closeness h) q (length q / 2)
+    → back ≡ not (beq (lt (decimal 0 0) (signed_area (ring_of q n))) ccw) → loop_ring h ccw r ≡ turned_if back (ring_of q n)
 unfolding loop_ring
-ring_found ccw back r q n hq hn hb = rw (← hq, ← hn) (turn_back ccw back (ring_of q n) hb)
+ring_found h ccw back r q n hq hn hb = rw (← hq, ← hn) (turn_back ccw back (ring_of q n) hb)

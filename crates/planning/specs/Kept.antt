@@ -5,5 +5,5 @@ use Rattle.geometry.specs.Rings.{point_at}
 use Rattle.planning.specs.Ring.{close}
 
 -- whether p is close to the last of the first m points
-abbrev pub close_to_last : List Float → ℕ → Point → Bool
-close_to_last buffer m p = ltb 0 m && close (point_at buffer (m - 1)) p
+abbrev pub close_to_last : Float → List Float → ℕ → Point → Bool
+close_to_last limit buffer m p = ltb 0 m && close limit (point_at buffer (m - 1)) p

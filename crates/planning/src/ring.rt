@@ -9,7 +9,7 @@ ghost use Rattle.geometry.specs.Measures as measures;
 ghost use Rattle.planning.specs.Ring as rings;
 ghost use Rattle.planning.specs.Backwards.{read_ring};
 
-use crate::keep::unclosed;
+use crate::keep::{closeness, unclosed};
 use crate::loop_ring::LoopRing;
 use geometry::{FirstPoints, Point, Ring};
 
@@ -34,16 +34,16 @@ fn turns(ring: &FirstPoints<'_>, ccw: bool) -> bool
 }
 
 // Finds the ring of any loop of which these points are kept.
-pub fn kept_ring(pts: &[f64], ccw: bool) -> LoopRing<'_>
+pub fn kept_ring(pts: &[f64], h: f64, ccw: bool) -> LoopRing<'_>
     ensures points { result.pts.now ≡ pts.now }
     ensures within { result.n * 2 ≤ length pts.now }
-    ensures found { (given : specs.Ring) → pts.now ≡ rings.kept given given.size → rings.loop_ring ccw given ≡ read_ring result }
+    ensures found { (given : specs.Ring) → pts.now ≡ rings.kept (rings.closeness h) given given.size → rings.loop_ring h ccw given ≡ read_ring result }
 {
     let kept = FirstPoints {
         pts,
         n: pts.len() / 2,
     };
-    let n = unclosed(&kept);
+    let n = unclosed(&kept, closeness(h));
     let back = turns(&FirstPoints { pts, n }, ccw);
     LoopRing { pts, n, back }
 }

@@ -23,8 +23,8 @@ fn sizes(rt: &impl Print) {
     pave(rt, b"size 0.0005", 0.0005, defaults(), &square);
 }
 
-// Sides of 1e-12.
-fn sides(rt: &impl Print) {
+// Points closer than 0.001 × h count as one; at just that distance they do not.
+fn close_points(rt: &impl Print) {
     let three = [0.0, 0.0, 1e-12, 0.0, 0.5, 0.5];
     pave(
         rt,
@@ -40,6 +40,14 @@ fn sides(rt: &impl Print) {
         1.0,
         defaults(),
         &five,
+    );
+    let apart = [0.0, 0.0, 0.001, 0.0, 1.0, 0.0, 1.0, 1.0, 0.0, 1.0];
+    pave(
+        rt,
+        b"five points, two of them 0.001 apart",
+        1.0,
+        defaults(),
+        &apart,
     );
 }
 
@@ -78,7 +86,7 @@ fn limit_met(rt: &impl Print) {
 
 pub fn jobs(rt: &impl Print) {
     sizes(rt);
-    sides(rt);
+    close_points(rt);
     other_options(rt, b"other options", default_limit());
     other_options(rt, b"other options and corner limit", 0.8);
     limit_met(rt);

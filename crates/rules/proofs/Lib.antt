@@ -15,6 +15,7 @@ pub mod PassGood
 pub mod Projected
 pub mod SampleSizes
 pub mod PassSizes
+pub mod Loops
 pub mod Numbers
 pub mod Limits
 pub mod Refusals

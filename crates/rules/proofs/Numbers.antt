@@ -78,7 +78,7 @@ abbrev pub input_numbers : List ℕ
 input_numbers = 1 ∷ 2 ∷ 3 ∷ 4 ∷ 5 ∷ 6 ∷ []
 
 abbrev pub loop_numbers : List ℕ
-loop_numbers = 7 ∷ 10 ∷ 8 ∷ 9 ∷ []
+loop_numbers = 7 ∷ 10 ∷ []
 
 abbrev pub fan_refusals : List ℕ
 fan_refusals = 23 ∷ 24 ∷ 26 ∷ 21 ∷ 27 ∷ []
@@ -122,14 +122,14 @@ loop_in h margin before ccw r = chosen_in _ _ loop_numbers (first_in _ loop_numb
 from_in : (h margin : Float) (before : ℕ) (ccw : Bool) (s : State) (rs : List Ring) → RefusedIn loop_numbers (sample_from h margin before ccw s rs)
 unfolding sample_from
 from_in h margin before ccw s [] = gives_in loop_numbers s
-from_in h margin before ccw s (r ∷ rs) = go (sample_loop h margin before ccw r) (loop_in h margin before ccw r) (λ out. from_in h margin (before + planned h margin (loop_ring ccw r)) false (with_loop s out) rs)
+from_in h margin before ccw s (r ∷ rs) = go (sample_loop h margin before ccw r) (loop_in h margin before ccw r) (λ out. from_in h margin (before + planned h margin (loop_ring h ccw r)) false (with_loop s out) rs)
   where
     after : Outcome (List Float) → Outcome State
     after (refused n) = refused n
-    after (gives out) = sample_from h margin (before + planned h margin (loop_ring ccw r)) false (with_loop s out) rs
+    after (gives out) = sample_from h margin (before + planned h margin (loop_ring h ccw r)) false (with_loop s out) rs
 
     go : (x : Outcome (List Float)) → RefusedIn loop_numbers x
-        → ((out : List Float) → RefusedIn loop_numbers (sample_from h margin (before + planned h margin (loop_ring ccw r)) false (with_loop s out) rs))
+        → ((out : List Float) → RefusedIn loop_numbers (sample_from h margin (before + planned h margin (loop_ring h ccw r)) false (with_loop s out) rs))
         → RefusedIn loop_numbers (after x)
     go (refused n) p rest = refused_in State loop_numbers n (unfold RefusedIn in p n refl)
     go (gives out) p rest = rest out

@@ -3,9 +3,8 @@ use mathlib.Core.Path.{◌≡◌, refl, ap, sym, ◌∙◌, subst}
 use mathlib.Core.Bool.{Bool, true, false}
 use mathlib.Core.List.{List, [], ◌∷◌, ◌++◌, map, map-append}
 use mathlib.Core.Logic.{inl, inr}
-use Prim.Native.Nat.{ℕ, zero, suc, ◌+◌, ◌-◌, ◌*◌, ◌/◌, ◌%◌, ◌≤◌}
+use Prim.Native.Nat.{ℕ, suc, ◌+◌, ◌*◌, ◌/◌, ◌%◌, ◌≤◌}
 use native.Mathlib.Nat.{zero-add}
-use native.Mathlib.Numerals.{add-one}
 use native.Mathlib.Omega.{arith}
 use lib.Dec.{ltb}
 use lib.ListN.{length, drop, length-append}
@@ -20,7 +19,7 @@ use Rattle.input.specs.Job.{Job, loop_limit}
 use Rattle.state.specs.Outcome.{Outcome, refused, gives}
 use Rattle.planning.specs.Ring.{loop_ring}
 use Rattle.planning.specs.Plan.{planned}
-use Rattle.placing.specs.Placed.{placed_on, placed}
+use Rattle.placing.specs.Placed.{placed}
 use Rattle.placing.specs.Loop.{sample_loop}
 use Rattle.sampling.specs.Sample.{empty, with_loop, sample_from, sampled}
 use Rattle.pairs.specs.Pairs.{sides, sides_of_all}
@@ -29,51 +28,30 @@ use Rattle.state.proofs.Outcomes.{gives_same, not_both, first_none, numbered_giv
 use Rattle.pairs.proofs.Occurs.{occurs, occurs_in_all, occurs_append_all, numbered-before, numbered_beyond, numbered_once}
 use Rattle.state.proofs.Growing.{length-numbered, joined-append}
 use Rattle.state.proofs.Repeating.{some_both}
-use Rattle.placing.proofs.Placing.{count_step, placed_few, room}
+use Rattle.placing.proofs.Placing.{placed_planned, planned_four}
 use Rattle.pairs.proofs.Sides.{sides_none_left, sides_once, sides-append_all, sides_none_left_all, sides_none_right_all}
 use Rattle.rules.proofs.Invariant.{Good}
 use Rattle.rules.proofs.Allowed.{too_short, Allowed, Stands}
 
--- ---- one loop: whole points, and at least four
+-- ---- one loop
 
-module _ (h margin : Float) (r : Ring) where
-  -- the nodes of one side more
-  one_side : (k n : ℕ) → n * 2 ≡ length (placed h margin r k) → (n + (placed_on h margin r k + 1)) * 2 ≡ length (placed h margin r (suc k))
-  one_side k n e = rw (add-one k) at (count_step h margin r k n (placed_on h margin r k + 1) e refl)
-
-  placed_even : (k : ℕ) → length (placed h margin r k) % 2 ≡ 0
-  placed_even zero = unfold placed in refl
-  placed_even (suc k) = let e = placed_even k in omega (arith, one_side k (length (placed h margin r k) / 2) (omega arith))
-
-  -- no more nodes are placed than planned
-  placed_within : (k : ℕ) → r.size ≡ suc k → length (placed h margin r r.size) / 2 ≤ planned h margin r
-  placed_within k e =
-      let n = length (placed h margin r k) / 2 in
-      let two : n * 2 ≡ length (placed h margin r k) = omega (arith, placed_even k) in
-      let last : length (placed h margin r r.size) ≡ length (placed h margin r (suc k)) = ap (λ i. length (placed h margin r i)) e in
-      omega (arith, one_side k n two, room h margin r k n (omega arith) two, placed_few h margin r k)
-
--- what a loop that is not refused has: whole points, four or more of them, and no more than planned within the limit
+-- what a loop that is not refused has: the nodes planned, four or more of them, within the limit
 pub record Loop (before planned : ℕ) (out : List Float) : Type 0 where
-  pub whole : length out % 2 ≡ 0
-  pub four : 4 ≤ length out / 2
-  pub fewer : length out / 2 ≤ planned
+  pub whole : length out ≡ planned * 2
+  pub four : 4 ≤ planned
   pub within : before + planned ≤ front_node_limit
 
-loop_gives : (h margin : Float) (before : ℕ) (ccw : Bool) (given : Ring) (out : List Float) → sample_loop h margin before ccw given ≡ gives out → Loop before (planned h margin (loop_ring ccw given)) out
+loop_gives : (h margin : Float) (before : ℕ) (ccw : Bool) (given : Ring) (out : List Float) → sample_loop h margin before ccw given ≡ gives out → Loop before (planned h margin (loop_ring h ccw given)) out
 unfolding sample_loop
 loop_gives h margin before ccw given out e =
-    let r = loop_ring ccw given in
-    let got = placed h margin r r.size in
-    let all = numbered_gives _ got out e in
+    let r = loop_ring h ccw given in
+    let all = numbered_gives _ (placed h margin r r.size) out e in
     let seven = first_none 6 _ _ all.0 in
     let ten = first_none 9 _ _ seven.1 in
-    let eight = first_none 7 _ _ ten.1 in
     let three : 3 ≤ r.size = ltb-false r.size 3 seven.0 in
     rw (← all.1) (record {
-      whole = placed_even h margin r r.size;
-      four = ltb-false (length got / 2) 4 eight.0;
-      fewer = placed_within h margin r (r.size - 1) (omega arith);
+      whole = placed_planned h margin r (omega arith);
+      four = planned_four h margin r three;
       within = ltb-false front_node_limit (before + planned h margin r) ten.0;
     })
 
@@ -127,7 +105,7 @@ module _ (s : State) (before more : ℕ) (out : List Float) (fresh : Fresh s) (f
   short_after : too_short (s.fronts ++ (new ∷ [])) ≡ false
   unfolding some
   short_after =
-      rw (map-append length s.fronts (new ∷ []), some_both (λ x. ltb x 3) (map length s.fronts) (length new ∷ []), fresh.three, length-numbered (nodes s) n, le-ltb n 3 (omega (arith, loop.four)))
+      rw (map-append length s.fronts (new ∷ []), some_both (λ x. ltb x 3) (map length s.fronts) (length new ∷ []), fresh.three, length-numbered (nodes s) n, le-ltb n 3 (omega (arith, loop.whole, loop.four)))
 
   occurs_after : (a : ℕ) → occurs_in_all a (s.fronts ++ (new ∷ [])) ≡ occurs_in_all a s.fronts + occurs a new
   unfolding occurs_in_all
@@ -145,7 +123,7 @@ module _ (s : State) (before more : ℕ) (out : List Float) (fresh : Fresh s) (f
     no_row_quads = fresh.no_row_quads;
     no_core_quads = fresh.no_core_quads;
     no_rounds = fresh.no_rounds;
-    few = omega (arith, nodes-after, loop.fewer, loop.within);
+    few = omega (arith, nodes-after, loop.whole, loop.within);
     front_nodes = joined-after ∙ sym nodes-after;
     three = short_after;
     even = omega (arith, length-append s.points out, fresh.even, loop.whole);
@@ -156,7 +134,7 @@ module _ (s : State) (before more : ℕ) (out : List Float) (fresh : Fresh s) (f
     low = λ a h. omega (arith, occurs_after a, nodes-after, fresh.low a (omega (arith, nodes-after)), numbered_beyond a (nodes s) n (omega (arith, nodes-after)));
     small = λ a b. elim (below_or_from a (nodes s)) [
       | inl x ↦ omega (arith, sides-after a b, fresh.small a b, sides_none_left a b new (numbered-before a (nodes s) n x))
-      | inr x ↦ omega (arith, sides-after a b, sides_none_left_all a b s.fronts (fresh.low a x), sides_once a b new (λ c. numbered_once c (nodes s) n) (omega (arith, length-numbered (nodes s) n, loop.four)))
+      | inr x ↦ omega (arith, sides-after a b, sides_none_left_all a b s.fronts (fresh.low a x), sides_once a b new (λ c. numbered_once c (nodes s) n) (omega (arith, length-numbered (nodes s) n, loop.whole, loop.four)))
     ];
   }
 
@@ -170,22 +148,22 @@ from_began : (h margin : Float) (before : ℕ) (ccw : Bool) (s : State) (rs : Li
 unfolding sample_from
 from_began h margin before ccw s [] t e fewer fresh = subst (λ x. Began (length s.fronts + 0) x) (gives_same e) (record { fresh = fresh; fronts = omega arith })
 from_began h margin before ccw s (r ∷ rs) t e fewer fresh =
-    go (sample_loop h margin before ccw r) refl (λ out d g f. from_began h margin (before + planned h margin (loop_ring ccw r)) false (with_loop s out) rs t d g f)
+    go (sample_loop h margin before ccw r) refl (λ out d g f. from_began h margin (before + planned h margin (loop_ring h ccw r)) false (with_loop s out) rs t d g f)
   where
     go : (x : Outcome (List Float)) → sample_loop h margin before ccw r ≡ x
-        → ((out : List Float) → sample_from h margin (before + planned h margin (loop_ring ccw r)) false (with_loop s out) rs ≡ gives t
-        → nodes (with_loop s out) ≤ before + planned h margin (loop_ring ccw r) → Fresh (with_loop s out) → Began (length (with_loop s out).fronts + length rs) t)
+        → ((out : List Float) → sample_from h margin (before + planned h margin (loop_ring h ccw r)) false (with_loop s out) rs ≡ gives t
+        → nodes (with_loop s out) ≤ before + planned h margin (loop_ring h ccw r) → Fresh (with_loop s out) → Began (length (with_loop s out).fronts + length rs) t)
         → Began (length s.fronts + suc (length rs)) t
     go (refused k) d rest = absurd (not_both (rw (d, sample_from) at e))
     go (gives out) d rest =
         let w = loop_gives h margin before ccw r out d in
-        let p = planned h margin (loop_ring ccw r) in
+        let p = planned h margin (loop_ring h ccw r) in
         let more : nodes (with_loop s out) ≡ nodes s + length out / 2 = unfold with_loop in nodes-after s before p out fresh fewer w in
-        let got = rest out (rw (d, sample_from) at e) (omega (arith, more, w.fewer)) (loop_fresh s before p out fresh fewer w) in
+        let got = rest out (rw (d, sample_from) at e) (omega (arith, more, w.whole)) (loop_fresh s before p out fresh fewer w) in
         let one : length (with_loop s out).fronts ≡ length s.fronts + 1 = unfold with_loop in length-append s.fronts _ in
         record { fresh = got.fresh; fronts = omega (arith, got.fronts, one) }
 
-length-rings : (coords : List Float) (loops : List ℕ) → length (rings coords loops) ≡ length loops
+pub length-rings : (coords : List Float) (loops : List ℕ) → length (rings coords loops) ≡ length loops
 unfolding rings
 length-rings coords [] = refl
 length-rings coords (n ∷ loops) = ap suc (length-rings (drop (n * 2) coords) loops)

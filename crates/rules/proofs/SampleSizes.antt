@@ -46,6 +46,7 @@ all_right n few (x ∷ xs) h = let w = within_right n x few h.0 in rw (w.0, w.1)
 -- ---- an accepted job's input
 pub record Limited (j : Job) : Type 0 where
   pub size : Within 1000000 j.h
+  pub size_least : T (le (decimal 1 3) j.h)
   pub size_clear : T (clear j.h)
   pub margin : Within 100 j.options.corner_margin
   pub margin_clear : NotNegative j.options.corner_margin
@@ -74,6 +75,7 @@ limited j l e =
     let z = tested_not_negative j.options.corner_margin m.0 in
     record {
       size = tested_within 1000000 j.h (lit≤ tt) (inl c) h.1;
+      size_least = h.0;
       size_clear = c;
       margin = tested_within 100 j.options.corner_margin (lit≤ tt) z m.1;
       margin_clear = z;
@@ -82,11 +84,11 @@ limited j l e =
     }
 
 -- ---- its rings
-unfoldable EachWithin : ℕ → List Ring → Type 0
+unfoldable pub EachWithin : ℕ → List Ring → Type 0
 EachWithin n [] = T true
 EachWithin n (r ∷ rs) = RingWithin n r × EachWithin n rs
 
-rings_within : (n : ℕ) (coords : List Float) (loops : List ℕ) → sum_of loops * 2 ≤ length coords → All n coords → EachWithin n (rings coords loops)
+pub rings_within : (n : ℕ) (coords : List Float) (loops : List ℕ) → sum_of loops * 2 ≤ length coords → All n coords → EachWithin n (rings coords loops)
 unfolding EachWithin rings sum_of
 rings_within n coords [] l h = tt
 rings_within n coords (k ∷ loops) l h = (
@@ -99,15 +101,15 @@ module _ (j : Job) (lim : Limited j) where
   from_all : (before : ℕ) (ccw : Bool) (s : State) (rs : List Ring) (t : State) → sample_from j.h j.options.corner_margin before ccw s rs ≡ gives t → EachWithin 1000000 rs → All 419777216 s.points → All 419777216 t.points
   unfolding sample_from EachWithin
   from_all before ccw s [] t e w a = subst (λ x. All 419777216 x.points) (gives_same e) a
-  from_all before ccw s (r ∷ rs) t e w a = go (sample_loop j.h j.options.corner_margin before ccw r) refl (λ out d b. from_all (before + planned j.h j.options.corner_margin (loop_ring ccw r)) false (with_loop s out) rs t d w.1 b)
+  from_all before ccw s (r ∷ rs) t e w a = go (sample_loop j.h j.options.corner_margin before ccw r) refl (λ out d b. from_all (before + planned j.h j.options.corner_margin (loop_ring j.h ccw r)) false (with_loop s out) rs t d w.1 b)
     where
       go : (x : Outcome (List Float)) → sample_loop j.h j.options.corner_margin before ccw r ≡ x
-          → ((out : List Float) → sample_from j.h j.options.corner_margin (before + planned j.h j.options.corner_margin (loop_ring ccw r)) false (with_loop s out) rs ≡ gives t → All 419777216 (with_loop s out).points → All 419777216 t.points)
+          → ((out : List Float) → sample_from j.h j.options.corner_margin (before + planned j.h j.options.corner_margin (loop_ring j.h ccw r)) false (with_loop s out) rs ≡ gives t → All 419777216 (with_loop s out).points → All 419777216 t.points)
           → All 419777216 t.points
       go (refused k) d rest = absurd (not_both (rw (d, sample_from) at e))
       go (gives out) d rest =
           rest out (rw (d, sample_from) at e)
-          (unfold with_loop in all_append 419777216 s.points out a (loop_all j.h j.options.corner_margin lim.size lim.size_clear lim.margin lim.margin_clear before ccw r out w.0 d))
+          (unfold with_loop in all_append 419777216 s.points out a (loop_all j.h j.options.corner_margin lim.size_least lim.size lim.size_clear lim.margin lim.margin_clear before ccw r out w.0 d))
 
   pub sampled_all : (s : State) → sum_of j.loops * 2 ≤ length j.coords → sampled j ≡ gives s → All 419777216 s.points
   unfolding sampled

@@ -18,10 +18,10 @@ use Rattle.pairs.specs.Pairs.{pair_count}
 -- ---- demand 1: every call answers a result, number 0, or a listed number; what a refusal leaves
 
 abbrev pub job_numbers : List ℕ
-job_numbers = 0 ∷ 1 ∷ 2 ∷ 3 ∷ 4 ∷ 5 ∷ 6 ∷ 7 ∷ 10 ∷ 8 ∷ 9 ∷ 21 ∷ []
+job_numbers = 0 ∷ 1 ∷ 2 ∷ 3 ∷ 4 ∷ 5 ∷ 6 ∷ 7 ∷ 10 ∷ 21 ∷ []
 
 abbrev pub sample_numbers : List ℕ
-sample_numbers = 0 ∷ 1 ∷ 2 ∷ 3 ∷ 4 ∷ 5 ∷ 6 ∷ 7 ∷ 10 ∷ 8 ∷ 9 ∷ []
+sample_numbers = 0 ∷ 1 ∷ 2 ∷ 3 ∷ 4 ∷ 5 ∷ 6 ∷ 7 ∷ 10 ∷ []
 
 abbrev pub row_numbers : List ℕ
 row_numbers = 0 ∷ 1 ∷ 2 ∷ 3 ∷ 4 ∷ 5 ∷ 6 ∷ 25 ∷ 20 ∷ 22 ∷ 21 ∷ []

@@ -9,3 +9,4 @@ pub mod Fan
 pub mod Calls
 pub mod Plates
 pub mod Demands
+pub mod Loops

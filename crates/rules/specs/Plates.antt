@@ -131,9 +131,12 @@ rows =
     (0 ∷ 4 ∷ 0 ∷ 1 ∷ 0 ∷ 0 ∷ 0 ∷ 1 ∷ 0
     ∷ 0 ∷ 0 ∷ bits (whole 2400) ∷ 0 ∷ bits (whole 300) ∷ 0 ∷ 0 ∷ bits (whole 400)
     ∷ 4 ∷ 0 ∷ 1 ∷ 2 ∷ 3 ∷ clean)
-    -- points 1e-12 apart: 8 and 9
-    ∷ row (everything (job_call close_triangle right_lengths)) (refusal 8)
-    ∷ row (everything (job_call close_square right_lengths)) (refusal 9)
+    -- points 1e-12 apart count as one: 7, and the square of four nodes, sampled
+    ∷ row (everything (job_call close_triangle right_lengths)) (refusal 7)
+    ∷ row (everything (sample_call close_square right_lengths))
+    (0 ∷ 4 ∷ 0 ∷ 1 ∷ 0 ∷ 0 ∷ 0 ∷ 0 ∷ 0
+    ∷ 0 ∷ 0 ∷ bits (whole 1) ∷ 0 ∷ bits (whole 1) ∷ bits (whole 1) ∷ 0 ∷ bits (whole 1)
+    ∷ 4 ∷ 0 ∷ 1 ∷ 2 ∷ 3 ∷ clean)
     -- a clockwise outer square: 6; h = 0: 2
     ∷ row (everything (job_call clockwise right_lengths)) (refusal 6)
     ∷ row (everything (job_call (square (whole 0) 3000) right_lengths)) (refusal 2)

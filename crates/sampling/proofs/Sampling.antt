@@ -3,7 +3,7 @@ use mathlib.Core.Path.{◌≡◌, refl, sym, ap, subst, ◌∙◌}
 use mathlib.Core.Bool.{Bool, false}
 use mathlib.Core.List.{List, [], ◌∷◌, ◌++◌, map, append-nil, map-append}
 use Prim.Native.Nat.{ℕ, ◌+◌, ◌*◌, ◌/◌, ◌≤◌, ◌<◌}
-use native.Mathlib.Nat.{zero-add, le_trans}
+use native.Mathlib.Nat.{zero-add}
 use native.Mathlib.Numerals.{add-one}
 use native.Mathlib.Omega.{arith}
 use lib.ListN.{length, get_or, drop, set, length-append, length-drop, drop_of_length-le, length-map}
@@ -24,7 +24,6 @@ use Rattle.placing.specs.Placed.{placed}
 use Rattle.placing.specs.Loop.{sample_loop}
 use Rattle.std.specs.Prelude.{Result, Ok}
 use Rattle.state.specs.declared.refusal.Refusal.{Refusal}
-use Rattle.placing.specs.declared.one_loop.LoopNodes.{LoopNodes}
 use Rattle.placing.specs.Placing.{MadeIs, Written}
 use Rattle.sampling.specs.Sample.{with_loop, sample_from}
 use Rattle.sampling.specs.Sampled.{of_loops, all_loops, Sampled}
@@ -40,8 +39,8 @@ lengths_more fs f = map-append length fs (f ∷ [])
 
 -- ---- one loop's answer
 
-pub made_nodes : {h corner_margin : Float} {r : Ring} {before at : ℕ} {entry exit : List Float} {answer : Outcome (List Float)} {made : Result LoopNodes Refusal} {m : LoopNodes} → made ≡ Ok m
-    → MadeIs h corner_margin r before at entry exit answer made → (answer ≡ gives (placed h corner_margin r r.size)) × Written h corner_margin r before at m.planned m.placed entry exit
+pub made_nodes : {h corner_margin : Float} {r : Ring} {at k : ℕ} {entry exit : List Float} {answer : Outcome (List Float)} {made : Result ℕ Refusal} → made ≡ Ok k
+    → MadeIs h corner_margin r at entry exit answer made → (answer ≡ gives (placed h corner_margin r r.size)) × Written h corner_margin r at k entry exit
 made_nodes e w = rw e at w
 
 -- ---- one loop of those to come
@@ -52,37 +51,36 @@ module _ (h corner_margin : Float) (before : ℕ) (ccw : Bool) (s : State) (r : 
   from_refused number e =
       subst
       (λ (x : Outcome (List Float)).
-      ◌≡◌ {A = Outcome State} (elim x as (λ _. Outcome State) [ refused n ↦ refused n | gives out ↦ sample_from h corner_margin (before + planned h corner_margin (loop_ring ccw r)) false (with_loop s out) rs ]) (refused number))
+      ◌≡◌ {A = Outcome State} (elim x as (λ _. Outcome State) [ refused n ↦ refused n | gives out ↦ sample_from h corner_margin (before + planned h corner_margin (loop_ring h ccw r)) false (with_loop s out) rs ]) (refused number))
       (sym e) refl
 
   pub from_given : (out : List Float) → sample_loop h corner_margin before ccw r ≡ gives out
-      → sample_from h corner_margin before ccw s (r ∷ rs) ≡ sample_from h corner_margin (before + planned h corner_margin (loop_ring ccw r)) false (with_loop s out) rs
+      → sample_from h corner_margin before ccw s (r ∷ rs) ≡ sample_from h corner_margin (before + planned h corner_margin (loop_ring h ccw r)) false (with_loop s out) rs
   unfolding sample_from
   from_given given e =
       subst
-      (λ (x : Outcome (List Float)). elim x as (λ _. Outcome State) [ refused n ↦ refused n | gives out ↦ sample_from h corner_margin (before + planned h corner_margin (loop_ring ccw r)) false (with_loop s out) rs ]
-      ≡ sample_from h corner_margin (before + planned h corner_margin (loop_ring ccw r)) false (with_loop s given) rs)
+      (λ (x : Outcome (List Float)). elim x as (λ _. Outcome State) [ refused n ↦ refused n | gives out ↦ sample_from h corner_margin (before + planned h corner_margin (loop_ring h ccw r)) false (with_loop s out) rs ]
+      ≡ sample_from h corner_margin (before + planned h corner_margin (loop_ring h ccw r)) false (with_loop s given) rs)
       (sym e) refl
 
 module _ (coords : List Float) (loops : List ℕ) (h corner_margin : Float) (p₀ : List Float) (n₀ l₀ : List ℕ) where
   -- `ahead` are the coordinates of the loops to come
-  pub record Progress (ahead : List Float) (before nodes k : ℕ) (p : List Float) (n l : List ℕ) : Type 0 where
+  pub record Progress (ahead : List Float) (nodes k : ℕ) (p : List Float) (n l : List ℕ) : Type 0 where
     pub points : List Float
     pub fronts : List (List ℕ)
     pub turn : k ≤ length loops
-    pub to_come : sample_from h corner_margin before (eqb k 0) (of_loops points fronts) (rings ahead (drop k loops)) ≡ all_loops coords loops h corner_margin
+    pub to_come : sample_from h corner_margin nodes (eqb k 0) (of_loops points fronts) (rings ahead (drop k loops)) ≡ all_loops coords loops h corner_margin
     pub left : sum_of (drop k loops) * 2 ≡ length ahead
     pub shorter : length ahead ≤ length coords
     pub nodes_is : nodes * 2 ≡ length points
-    pub fewer : nodes ≤ before
-    pub within : before ≤ front_node_limit
+    pub within : nodes ≤ front_node_limit
     pub joined_is : length (joined fronts) ≡ nodes
     pub fronts_is : length fronts ≡ k
     pub points_are : p ≡ sets p₀ 0 points
     pub nodes_are : n ≡ sets n₀ 0 (joined fronts)
     pub lengths_are : l ≡ sets l₀ 0 (map length fronts)
 
-  pub at_first : sum_of loops * 2 ≡ length coords → Progress coords 0 0 0 p₀ n₀ l₀
+  pub at_first : sum_of loops * 2 ≡ length coords → Progress coords 0 0 p₀ n₀ l₀
   unfolding joined
   at_first e = record {
     points = [];
@@ -92,7 +90,6 @@ module _ (coords : List Float) (loops : List ℕ) (h corner_margin : Float) (p�
     left = e;
     shorter = omega arith;
     nodes_is = refl;
-    fewer = omega arith;
     within = omega arith;
     joined_is = refl;
     fronts_is = refl;
@@ -101,8 +98,8 @@ module _ (coords : List Float) (loops : List ℕ) (h corner_margin : Float) (p�
     lengths_are = refl;
   }
 
-module _ {coords : List Float} {loops : List ℕ} {h corner_margin : Float} {p₀ : List Float} {n₀ l₀ : List ℕ} {ahead : List Float} {before nodes k : ℕ} {p : List Float} {n l : List ℕ}
-    (sofar : Progress coords loops h corner_margin p₀ n₀ l₀ ahead before nodes k p n l) where
+module _ {coords : List Float} {loops : List ℕ} {h corner_margin : Float} {p₀ : List Float} {n₀ l₀ : List ℕ} {ahead : List Float} {nodes k : ℕ} {p : List Float} {n l : List ℕ}
+    (sofar : Progress coords loops h corner_margin p₀ n₀ l₀ ahead nodes k p n l) where
   pub at_last : length loops ≤ k → Sampled coords loops h corner_margin nodes p₀ p n₀ n l₀ l
   unfolding sample_from rings
   at_last done = record {
@@ -110,7 +107,7 @@ module _ {coords : List Float} {loops : List ℕ} {h corner_margin : Float} {p�
     fronts = sofar.fronts;
     made = sym (rw (drop_of_length-le loops done) at sofar.to_come);
     nodes_is = sofar.nodes_is;
-    few = le_trans sofar.fewer sofar.within;
+    few = sofar.within;
     joined_is = sofar.joined_is;
     fronts_is = sofar.fronts_is ∙ same k (length loops) sofar.turn done;
     points_are = sofar.points_are;
@@ -143,44 +140,44 @@ module _ {coords : List Float} {loops : List ℕ} {h corner_margin : Float} {p�
     abbrev others : List Ring
     others = rings (drop (m * 2) ahead) (drop (k + 1) loops)
 
-    pub loop_refused : (number : ℕ) → sample_loop h corner_margin before (eqb k 0) given ≡ refused number → all_loops coords loops h corner_margin ≡ refused number
+    pub loop_refused : (number : ℕ) → sample_loop h corner_margin nodes (eqb k 0) given ≡ refused number → all_loops coords loops h corner_margin ≡ refused number
     loop_refused number made =
         sym sofar.to_come
-        ∙ ap (λ (rs : List Ring). sample_from h corner_margin before (eqb k 0) (of_loops sofar.points sofar.fronts) rs) next-rings
-        ∙ from_refused h corner_margin before (eqb k 0) (of_loops sofar.points sofar.fronts) given others number made
+        ∙ ap (λ (rs : List Ring). sample_from h corner_margin nodes (eqb k 0) (of_loops sofar.points sofar.fronts) rs) next-rings
+        ∙ from_refused h corner_margin nodes (eqb k 0) (of_loops sofar.points sofar.fronts) given others number made
 
     abbrev ring : Ring
-    ring = loop_ring (eqb k 0) given
+    ring = loop_ring h (eqb k 0) given
 
     abbrev out : List Float
     out = placed h corner_margin ring ring.size
 
-    module _ {before' placed' : ℕ} {p' ahead' : List Float} {n' l' : List ℕ} (made : sample_loop h corner_margin before (eqb k 0) given ≡ gives out) (w : Written h corner_margin ring before nodes before' placed' p p')
-        (hn : n' ≡ sets n nodes (numbered nodes placed')) (hl : l' ≡ set l k placed') (ha : ahead' ≡ drop (m * 2) ahead) where
+    module _ {more' : ℕ} {p' ahead' : List Float} {n' l' : List ℕ} (made : sample_loop h corner_margin nodes (eqb k 0) given ≡ gives out) (w : Written h corner_margin ring nodes more' p p')
+        (hn : n' ≡ sets n nodes (numbered nodes more')) (hl : l' ≡ set l k more') (ha : ahead' ≡ drop (m * 2) ahead) where
       abbrev front : List ℕ
-      front = numbered nodes placed'
+      front = numbered nodes more'
 
       abbrev now : State
       now = of_loops sofar.points sofar.fronts
 
-      on : sample_from h corner_margin (before + before') false (with_loop now out) others ≡ all_loops coords loops h corner_margin
+      on : sample_from h corner_margin (nodes + more') false (with_loop now out) others ≡ all_loops coords loops h corner_margin
       on =
-          ap (λ (b : ℕ). sample_from h corner_margin (before + b) false (with_loop now out) others) w.planned_is
-          ∙ sym (ap (λ (rs : List Ring). sample_from h corner_margin before (eqb k 0) now rs) next-rings
-          ∙ from_given h corner_margin before (eqb k 0) now given others out made)
+          ap (λ (b : ℕ). sample_from h corner_margin (nodes + b) false (with_loop now out) others) w.planned_is
+          ∙ sym (ap (λ (rs : List Ring). sample_from h corner_margin nodes (eqb k 0) now rs) next-rings
+          ∙ from_given h corner_margin nodes (eqb k 0) now given others out made)
           ∙ sofar.to_come
 
       with_loop_lem : with_loop now out ≡ of_loops (sofar.points ++ out) (sofar.fronts ++ (front ∷ []))
       unfolding with_loop
       with_loop_lem =
           let a : length sofar.points / 2 ≡ nodes = half (length sofar.points) nodes sofar.nodes_is in
-          let b : length out / 2 ≡ placed' = half (length out) placed' w.placed_is in
+          let b : length out / 2 ≡ more' = half (length out) more' w.placed_is in
           rw (a, b)
         where
           half : (x y : ℕ) → y * 2 ≡ x → x / 2 ≡ y
           half x y e = omega arith
 
-      pub one_more : Progress coords loops h corner_margin p₀ n₀ l₀ ahead' (before + before') (nodes + placed') (k + 1) p' n' l'
+      pub one_more : Progress coords loops h corner_margin p₀ n₀ l₀ ahead' (nodes + more') (k + 1) p' n' l'
       one_more = record {
         points = sofar.points ++ out;
         fronts = sofar.fronts ++ (front ∷ []);
@@ -188,10 +185,9 @@ module _ {coords : List Float} {loops : List ℕ} {h corner_margin : Float} {p�
         to_come = rw (ha, ne_eqb (k + 1) 0 (not_first k), ← with_loop_lem) on;
         left = rw ha room_left;
         shorter = rw (ha, length-drop) (omega (arith, sofar.shorter));
-        nodes_is = rw (length-append, ← w.placed_is) (both nodes placed' (length sofar.points) sofar.nodes_is);
-        fewer = sum-le nodes placed' before before' sofar.fewer w.fewer;
+        nodes_is = rw (length-append, ← w.placed_is) (both nodes more' (length sofar.points) sofar.nodes_is);
         within = w.within;
-        joined_is = ap length (joined_more sofar.fronts front) ∙ length-append (joined sofar.fronts) front ∙ rw (sofar.joined_is, length-numbered nodes placed');
+        joined_is = ap length (joined_more sofar.fronts front) ∙ length-append (joined sofar.fronts) front ∙ rw (sofar.joined_is, length-numbered nodes more');
         fronts_is = length-append sofar.fronts (front ∷ []) ∙ ap (λ (x : ℕ). x + 1) sofar.fronts_is;
         points_are = w.points ∙ rw (sofar.points_are, sofar.nodes_is ∙ sym (zero-add (length sofar.points))) (sym (sets-append sofar.points out p₀ 0));
         nodes_are =
@@ -202,8 +198,8 @@ module _ {coords : List Float} {loops : List ℕ} {h corner_margin : Float} {p�
             ∙ ap (λ (x : List ℕ). sets n₀ 0 x) (sym (joined_more sofar.fronts front));
         lengths_are =
             hl
-            ∙ store_behind l₀ (map length sofar.fronts) l 0 k placed' sofar.lengths_are (sym (zero-add (length (map length sofar.fronts)) ∙ length-map sofar.fronts length ∙ sofar.fronts_is))
-            ∙ ap (λ (x : ℕ). sets l₀ 0 (map length sofar.fronts ++ (x ∷ []))) (sym (length-numbered nodes placed'))
+            ∙ store_behind l₀ (map length sofar.fronts) l 0 k more' sofar.lengths_are (sym (zero-add (length (map length sofar.fronts)) ∙ length-map sofar.fronts length ∙ sofar.fronts_is))
+            ∙ ap (λ (x : ℕ). sets l₀ 0 (map length sofar.fronts ++ (x ∷ []))) (sym (length-numbered nodes more'))
             ∙ ap (λ (x : List ℕ). sets l₀ 0 x) (sym (lengths_more sofar.fronts front));
       }
         where
@@ -215,6 +211,3 @@ module _ {coords : List Float} {loops : List ℕ} {h corner_margin : Float} {p�
 
           both : (a b c : ℕ) → a * 2 ≡ c → (a + b) * 2 ≡ c + b * 2
           both a b c e = omega arith
-
-          sum-le : (a b c d : ℕ) → a ≤ c → b ≤ d → a + b ≤ c + d
-          sum-le a b c d e f = omega arith

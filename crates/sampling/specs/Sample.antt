@@ -32,7 +32,7 @@ sample_from h corner_margin before ccw s [] = gives s
 sample_from h corner_margin before ccw s (r ∷ rs) =
     elim (sample_loop h corner_margin before ccw r) [
       | refused n ↦ refused n
-      | gives out ↦ sample_from h corner_margin (before + planned h corner_margin (loop_ring ccw r)) false (with_loop s out) rs
+      | gives out ↦ sample_from h corner_margin (before + planned h corner_margin (loop_ring h ccw r)) false (with_loop s out) rs
     ]
 
 unfoldable pub sampled : Job → Outcome State

@@ -12,7 +12,7 @@ use state::{Refusal, narrow, put_numbers};
 
 // Samples the loops in turn and writes their nodes from the fronts of the lent buffers on; answers how many nodes they have. `buffer`,
 // `lengths` and `spans` are for the work. Three of the lent buffers and no `Lent`: the fourth, the quads, is not touched, and no clause
-// has to say so. The counts so far go from loop to loop.
+// has to say so. How many nodes there are so far goes from loop to loop.
 fn loops_in_turn(
     job: &Accepted,
     points: &mut [f64],
@@ -33,29 +33,26 @@ fn loops_in_turn(
         corner_margin: job.options.corner_margin,
     };
     let mut ahead = job.outline.coords;
-    let mut before = 0usize;
     let mut nodes = 0usize;
     for (k, n) in job.outline.loop_lengths.iter().enumerate() {
         let given = FirstPoints {
             pts: ahead,
             n: usize::from(*n),
         };
-        let made = sample_loop(
+        let more = sample_loop(
             &given,
             k == 0,
             spacing,
-            before,
             buffer,
             lengths,
             spans,
             points,
             nodes,
         )?;
-        put_numbers(front_nodes, nodes, made.placed, nodes);
-        front_lengths[k] = narrow(made.placed);
+        put_numbers(front_nodes, nodes, more, nodes);
+        front_lengths[k] = narrow(more);
         ahead = given.rest();
-        before += made.planned;
-        nodes += made.placed;
+        nodes += more;
     }
     Ok(nodes)
 }

@@ -12,7 +12,7 @@ use crate::all_loops::sample_loops;
 use input::{Accepted, Job};
 use state::{Counts, Lent, Refusal, fill_from};
 
-// Numbers 7 to 10, or the sampled loops of a job that passed its test with these buffers; whatever the buffers held. Each place is written once, zeros behind the
+// Numbers 7 and 10, or the sampled loops of a job that passed its test with these buffers; whatever the buffers held. Each place is written once, zeros behind the
 // loops.
 pub fn sample_accepted(job: &Accepted, lent: &mut Lent) -> Result<Counts, Refusal>
     requires { Shaped (accepted_of job.now) (lengths_in lent.old) }

@@ -1,4 +1,4 @@
-// From a job to its sampled loops: the call `sample`, with the numbers 1 to 10 of document 01 (`sample` of the Rust's alt_paving.rs).
+// From a job to its sampled loops: the call `sample`, with the numbers 1 to 7 and 10 of document 01 (`sample` of the Rust's alt_paving.rs).
 #![tactic(auto)]
 
 mod all_loops;

@@ -2,7 +2,7 @@
 use mathlib.Core.Path.{◌≡◌}
 use native.Mathlib.Omega.{arith}
 use Rattle.state.specs.declared.refusal.Refusal.{Refusal}
-use Rattle.state.specs.declared.refusal.Refusal.TheVariants.{Shape, Size, Options, OuterLoop, Coordinate, Area, FewPoints, FewNodes, OddNodes, ManyNodes, NoFront, Full, Row, Fronts, FanFront, State, Centre, Corner}
+use Rattle.state.specs.declared.refusal.Refusal.TheVariants.{Shape, Size, Options, OuterLoop, Coordinate, Area, FewPoints, ManyNodes, NoFront, Full, Row, Fronts, FanFront, State, Centre, Corner}
 use Rattle.state.specs.Refusals.{number}
 
 pub number_nonzero : (e : Refusal) → number e ≡ 0 → ⊥
@@ -13,8 +13,6 @@ number_nonzero OuterLoop z = omega arith
 number_nonzero Coordinate z = omega arith
 number_nonzero Area z = omega arith
 number_nonzero FewPoints z = omega arith
-number_nonzero FewNodes z = omega arith
-number_nonzero OddNodes z = omega arith
 number_nonzero ManyNodes z = omega arith
 number_nonzero NoFront z = omega arith
 number_nonzero Full z = omega arith

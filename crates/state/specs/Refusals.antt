@@ -1,7 +1,7 @@
 -- The number of each refusal, and a result of the code as the definitions have it. Definitions only.
 use Rattle.std.specs.Prelude.{ℕ, Result, Ok, Err}
 use Rattle.state.specs.declared.refusal.Refusal.{Refusal}
-use Rattle.state.specs.declared.refusal.Refusal.TheVariants.{Shape, Size, Options, OuterLoop, Coordinate, Area, FewPoints, FewNodes, OddNodes, ManyNodes, NoFront, Full, Row, Fronts, FanFront, State, Centre, Corner}
+use Rattle.state.specs.declared.refusal.Refusal.TheVariants.{Shape, Size, Options, OuterLoop, Coordinate, Area, FewPoints, ManyNodes, NoFront, Full, Row, Fronts, FanFront, State, Centre, Corner}
 use Rattle.state.specs.Outcome.{Outcome, refused, gives}
 
 abbrev pub number : Refusal → ℕ
@@ -12,8 +12,6 @@ number OuterLoop = 4
 number Coordinate = 5
 number Area = 6
 number FewPoints = 7
-number FewNodes = 8
-number OddNodes = 9
 number ManyNodes = 10
 number NoFront = 20
 number Full = 21

@@ -13,10 +13,8 @@ pub enum Refusal {
     OuterLoop = 4,
     Coordinate = 5,
     Area = 6,
-    // a loop: under three points left, under four nodes, an odd number of nodes, too many nodes so far
+    // a loop: under three points left, too many nodes so far
     FewPoints = 7,
-    FewNodes = 8,
-    OddNodes = 9,
     ManyNodes = 10,
     // a call on a state: no such front, no room, a row that fails a check, several fronts, a front that has no fan, a state
     // that none is, no centre, a corner of a fan's quad

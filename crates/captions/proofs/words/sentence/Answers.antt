@@ -20,14 +20,6 @@ pub returns-in-7 : goal.returns-in-7
 unfolding sentence one_of
 returns-in-7 c = rw c.in-7.is
 
-pub returns-in-8 : goal.returns-in-8
-unfolding sentence one_of
-returns-in-8 c = rw c.in-8.is
-
-pub returns-in-9 : goal.returns-in-9
-unfolding sentence one_of
-returns-in-9 c = rw c.in-9.is
-
 pub returns-in-10 : goal.returns-in-10
 unfolding sentence one_of
 returns-in-10 c = rw c.in-10.is

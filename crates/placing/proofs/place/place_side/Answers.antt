@@ -1,19 +1,13 @@
--- `placing::place::place_side` meets its contract: a side that is too short, one that gets no inner points, and any other.
+-- `placing::place::place_side` meets its contract: a side that gets no inner points, and any other.
 use mathlib.Core.Path.{◌≡◌}
 use Prim.Native.Nat.{ℕ}
 use native.Mathlib.Omega.{arith}
 use Rattle.geometry.specs.Rings.{Ring}
 use Rattle.planning.specs.Plan as plans
 use Rattle.planning.specs.Backwards.{read_ring}
-use Rattle.geometry.proofs.Literals.{tiny_is}
 use Rattle.planning.proofs.Planning.{inner_is}
-use Rattle.placing.proofs.Placing.{short_side, bare_side, long_side}
+use Rattle.placing.proofs.Placing.{bare_side, long_side}
 use Rattle.placing.proofs.place.place_side.Goals as goal
-
-pub returns-then-length : goal.returns-then-length
-returns-then-length c =
-    let turned_ring : Ring = read_ring c.args.ring in
-    short_side c.args.spacing.h c.args.spacing.corner_margin turned_ring c.args.i c.args.at _ _ c.args.points.now _ c.requires.n_bound.1 (rw tiny_is at c.if-length.true) c.at-a.ensures c.put_point.ensures
 
 pub parts_of-parts-requires : goal.parts_of-parts-requires
 parts_of-parts-requires c =
@@ -29,7 +23,7 @@ returns-then-parts-eq0 c =
     let parts_at : ℕ = plans.parts c.args.spacing.h c.args.spacing.corner_margin turned_ring c.args.i in
     let inner-found : c.inner_of.result ≡ inner-at = (inner_is c.args.spacing.h c.args.spacing.corner_margin turned_ring c.args.i _ _ c.requires.n_bound.2 c.inner_of.ensures) in
     let parts-found : c.parts_of-parts.result ≡ parts_at = (omega (arith, c.parts_of-parts.ensures, inner-found, c.requires.i_value)) in
-    bare_side c.args.spacing.h c.args.spacing.corner_margin turned_ring c.args.i c.args.at _ _ _ c.args.points.now _ c.requires.n_bound.1 (rw tiny_is at c.if-length.false) parts-found c.if-parts-eq0.true c.at-a.ensures c.put_point.ensures
+    bare_side c.args.spacing.h c.args.spacing.corner_margin turned_ring c.args.i c.args.at _ _ c.args.points.now _ parts-found c.if-parts-eq0.true c.at-a.ensures c.put_point.ensures
 
 pub invariant_of-side : goal.invariant_of-side
 invariant_of-side c =
@@ -65,4 +59,4 @@ returns c =
     let parts_at : ℕ = plans.parts c.args.spacing.h c.args.spacing.corner_margin turned_ring c.args.i in
     let inner-found : c.inner_of.result ≡ inner-at = (inner_is c.args.spacing.h c.args.spacing.corner_margin turned_ring c.args.i _ _ c.requires.n_bound.2 c.inner_of.ensures) in
     let parts-found : c.parts_of-parts.result ≡ parts_at = (omega (arith, c.parts_of-parts.ensures, inner-found, c.requires.i_value)) in
-    long_side c.args.spacing.h c.args.spacing.corner_margin turned_ring c.args.i _ c.args.at _ _ _ _ _ _ c.args.points.now _ _ c.requires.n_bound.1 (rw tiny_is at c.if-length.false) c.next_of.ensures.value c.at-a.ensures c.at-b.ensures c.margin_at-margin.ensures c.requires.n_bound.2 parts-found c.put_point.ensures c.place.ensures
+    long_side c.args.spacing.h c.args.spacing.corner_margin turned_ring c.args.i _ c.args.at _ _ _ _ _ _ c.args.points.now _ _ c.requires.n_bound.1 c.next_of.ensures.value c.at-a.ensures c.at-b.ensures c.margin_at-margin.ensures c.requires.n_bound.2 parts-found c.put_point.ensures c.place.ensures

@@ -10,6 +10,6 @@ use Rattle.planning.proofs.keep.keep_points.Given as goal
 abbrev pub invariant-loop-k : goal.invariant-loop-k
 invariant-loop-k l = record {
   within : l.m ≤ l.k;
-  many : l.m * 2 ≡ length (rings.kept (ring_of l.given.pts.now l.given.n) l.k);
-  written : l.kept ≡ sets l.initial.kept 0 (rings.kept (ring_of l.given.pts.now l.given.n) l.k);
+  many : l.m * 2 ≡ length (rings.kept l.limit (ring_of l.given.pts.now l.given.n) l.k);
+  written : l.kept ≡ sets l.initial.kept 0 (rings.kept l.limit (ring_of l.given.pts.now l.given.n) l.k);
 }

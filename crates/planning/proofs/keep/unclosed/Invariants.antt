@@ -5,7 +5,7 @@ use Rattle.planning.specs.Ring as rings
 use Rattle.planning.proofs.keep.unclosed.Given as goal
 
 abbrev pub invariant-loop-m : goal.invariant-loop-m
-invariant-loop-m l = (l.m ≤ l.kept.n) × (rings.unclosed l.kept.pts.now l.m ≡ rings.unclosed l.kept.pts.now l.kept.n)
+invariant-loop-m l = (l.m ≤ l.kept.n) × (rings.unclosed l.limit l.kept.pts.now l.m ≡ rings.unclosed l.limit l.kept.pts.now l.kept.n)
 
 abbrev pub decreases-loop-m : goal.decreases-loop-m
 decreases-loop-m l = l.m

@@ -4,4 +4,4 @@ use Rattle.planning.proofs.ring.kept_ring.Goals as goal
 
 pub returns-clause-found : goal.returns-clause-found
 returns-clause-found c =
-    λ given e. ring_found _ _ given _ _ e c.unclosed-n.ensures.0 c.turns-back.ensures
+    λ given e. ring_found c.args.h _ _ given _ _ e (rw c.closeness.ensures at c.unclosed-n.ensures.0) c.turns-back.ensures

@@ -25,74 +25,64 @@ sample_loop-requires c =
         omega (arith, fits, shorter, c.requires.work.1, l.invariant.5),
         omega (arith, fits, shorter, c.requires.work.2, l.invariant.6),
       );
-      at_le_before = (l.invariant.0.fewer, l.invariant.0.within, omega (arith, c.requires.room.0, l.invariant.1));
+      at_bound = (l.invariant.0.within, omega (arith, c.requires.room.0, l.invariant.1));
     }
 
-pub shape_of-points-in_err-made : goal.shape_of-points-in_err-made
-shape_of-points-in_err-made c =
+pub shape_of-points-in_err-more : goal.shape_of-points-in_err-more
+shape_of-points-in_err-more c =
     c.sample_loop.auto.points ∙ c.loop-k.invariant.1
 
-pub shape_of-front_nodes-in_err-made : goal.shape_of-front_nodes-in_err-made
-shape_of-front_nodes-in_err-made c =
+pub shape_of-front_nodes-in_err-more : goal.shape_of-front_nodes-in_err-more
+shape_of-front_nodes-in_err-more c =
     c.loop-k.invariant.2
 
-pub shape_of-front_lengths-in_err-made : goal.shape_of-front_lengths-in_err-made
-shape_of-front_lengths-in_err-made c =
+pub shape_of-front_lengths-in_err-more : goal.shape_of-front_lengths-in_err-more
+shape_of-front_lengths-in_err-more c =
     c.loop-k.invariant.3
 
-pub shape_of-buffer-in_err-made : goal.shape_of-buffer-in_err-made
-shape_of-buffer-in_err-made c =
+pub shape_of-buffer-in_err-more : goal.shape_of-buffer-in_err-more
+shape_of-buffer-in_err-more c =
     c.sample_loop.auto.buffer ∙ c.loop-k.invariant.4
 
-pub shape_of-lengths-in_err-made : goal.shape_of-lengths-in_err-made
-shape_of-lengths-in_err-made c =
+pub shape_of-lengths-in_err-more : goal.shape_of-lengths-in_err-more
+shape_of-lengths-in_err-more c =
     c.sample_loop.auto.lengths ∙ c.loop-k.invariant.5
 
-pub shape_of-spans-in_err-made : goal.shape_of-spans-in_err-made
-shape_of-spans-in_err-made c =
+pub shape_of-spans-in_err-more : goal.shape_of-spans-in_err-more
+shape_of-spans-in_err-more c =
     c.sample_loop.auto.spans ∙ c.loop-k.invariant.6
 
-pub returns-in_err-made : goal.returns-in_err-made
-returns-in_err-made c =
+pub returns-in_err-more : goal.returns-in_err-more
+returns-in_err-more c =
     let l = c.loop-k in
     let p = err_from_is_err_and c.from_residual.result c.from_residual.ensures.1 in
-    rw (p.1, p.2) (loop_refused l.invariant.0 c.from.ensures c.loop-k-test.true _ (rw c.in_err-made.was at c.sample_loop.ensures))
+    rw (p.1, p.2) (loop_refused l.invariant.0 c.from.ensures c.loop-k-test.true _ (rw c.in_err-more.was at c.sample_loop.ensures))
 
 pub put_numbers-requires : goal.put_numbers-requires
 put_numbers-requires c =
-    let few-nodes : (c.loop-k.before + c.in_ok-made.made.planned ≤ front_node_limit) × (c.loop-k.nodes + c.in_ok-made.made.placed ≤ front_node_limit) = (let w = (made_nodes c.in_ok-made.was c.sample_loop.ensures).1 in
-    (w.within, omega (arith, w.within, w.fewer, c.loop-k.invariant.0.fewer))) in
-    let few = few-nodes.1 in
+    let few : c.loop-k.nodes + c.in_ok-more.more ≤ front_node_limit = (made_nodes c.in_ok-more.was c.sample_loop.ensures).1.within in
     (omega (arith, few, c.loop-k.invariant.2, c.requires.room.1), omega (arith, few))
 
 pub narrow-requires : goal.narrow-requires
 narrow-requires c =
-    let few-nodes : (c.loop-k.before + c.in_ok-made.made.planned ≤ front_node_limit) × (c.loop-k.nodes + c.in_ok-made.made.placed ≤ front_node_limit) = (let w = (made_nodes c.in_ok-made.was c.sample_loop.ensures).1 in
-    (w.within, omega (arith, w.within, w.fewer, c.loop-k.invariant.0.fewer))) in
-    omega (arith, few-nodes.1)
+    let few : c.loop-k.nodes + c.in_ok-more.more ≤ front_node_limit = (made_nodes c.in_ok-more.was c.sample_loop.ensures).1.within in
+    omega (arith, few)
 
 pub bounds-front_lengths-k : goal.bounds-front_lengths-k
 bounds-front_lengths-k c =
     omega (arith, c.loop-k-test.true, c.loop-k.invariant.3, c.requires.job.2, c.requires.room.2)
 
-pub overflow_add-before : goal.overflow_add-before
-overflow_add-before c =
-    let few-nodes : (c.loop-k.before + c.in_ok-made.made.planned ≤ front_node_limit) × (c.loop-k.nodes + c.in_ok-made.made.placed ≤ front_node_limit) = (let w = (made_nodes c.in_ok-made.was c.sample_loop.ensures).1 in
-    (w.within, omega (arith, w.within, w.fewer, c.loop-k.invariant.0.fewer))) in
-    omega (arith, few-nodes.0)
-
 pub overflow_add-nodes : goal.overflow_add-nodes
 overflow_add-nodes c =
-    let few-nodes : (c.loop-k.before + c.in_ok-made.made.planned ≤ front_node_limit) × (c.loop-k.nodes + c.in_ok-made.made.placed ≤ front_node_limit) = (let w = (made_nodes c.in_ok-made.was c.sample_loop.ensures).1 in
-    (w.within, omega (arith, w.within, w.fewer, c.loop-k.invariant.0.fewer))) in
-    omega (arith, few-nodes.1)
+    let few : c.loop-k.nodes + c.in_ok-more.more ≤ front_node_limit = (made_nodes c.in_ok-more.was c.sample_loop.ensures).1.within in
+    omega (arith, few)
 
 pub loop-k-preserved : goal.loop-k-preserved
 loop-k-preserved c =
     let sample-loop = c.sample_loop in
     let put-numbers = c.put_numbers in
     let l = c.loop-k in
-    let w = made_nodes c.in_ok-made.was sample-loop.ensures in (
+    let w = made_nodes c.in_ok-more.was sample-loop.ensures in (
       one_more l.invariant.0 c.from.ensures c.loop-k-test.true w.0 w.1 put-numbers.ensures (ap (set l.front_lengths l.k) c.narrow.ensures) c.rest-ahead.ensures,
       sample-loop.auto.points ∙ l.invariant.1,
       put-numbers.auto.nodes ∙ l.invariant.2,

@@ -6,7 +6,7 @@ use Rattle.sampling.proofs.all_loops.loops_in_turn.Given as goal
 
 abbrev pub invariant-loop-k : goal.invariant-loop-k
 invariant-loop-k l =
-    Progress l.job.outline.coords.now l.job.outline.loop_lengths.now l.job.h l.job.options.corner_margin l.initial.points l.initial.front_nodes l.initial.front_lengths l.ahead l.before l.nodes l.k l.points l.front_nodes l.front_lengths
+    Progress l.job.outline.coords.now l.job.outline.loop_lengths.now l.job.h l.job.options.corner_margin l.initial.points l.initial.front_nodes l.initial.front_lengths l.ahead l.nodes l.k l.points l.front_nodes l.front_lengths
     × (length l.points ≡ length l.initial.points)
     × (length l.front_nodes ≡ length l.initial.front_nodes)
     × (length l.front_lengths ≡ length l.initial.front_lengths)
