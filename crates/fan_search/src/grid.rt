@@ -15,7 +15,7 @@ pub fn box_of<R: Ring>(ring: &R) -> Box
 {
     let n = ring.size();
     let mut b = Box::empty();
-    // by place, as a ring is asked
+    // by place: a `Ring` has no iterator, which would be one more type with its laws for this walk
     for i in 0..n {
         b = b.with(ring.at(i));
     }
@@ -53,13 +53,9 @@ fn try_point<R: Ring>(outline: &Outline, front: &R, p: Point, best: Centre) -> C
     }
     let square = match look_at(p, front, best.square) {
         Err(near) => {
-            // field by field: a value with a ghost field has no `..best`
-            return Centre {
-                point: best.point,
-                clearance: best.clearance,
-                square: best.square,
-                near,
-            };
+            let mut kept = best;
+            kept.near = near;
+            return kept;
         }
         Ok(square) => square,
     };

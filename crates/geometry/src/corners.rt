@@ -1,5 +1,5 @@
-// Corners of a ring and of a quad: document 01's readings of the Rust's angles. A quad's points come one by one: most who ask have
-// them so and would build a struct for the one call, and C's names need four as well.
+// Corners of a ring and of a quad: document 01's readings of the Rust's angles. A quad's points come one by one: closing_search
+// has a struct of them, in a crate above; each other caller would make one for the call.
 ghost use Rattle.std.specs.Prelude.{◌≡◌};
 ghost use Rattle.geometry.specs.Measures.{corner_passes, corner_value, corners_pass, least_corner, quad_area, sharp_turn, side_length};
 

@@ -150,6 +150,7 @@ pub fn signed_area<R: Ring>(ring: &R) -> f64
     if i == n {
         return (sum + area_term(a, first)) / 2.0;
     }
+    // by place: a `Ring` has no iterator, which would be one more type with its laws
     for j in i..n {
         let b = ring.at(j);
         sum = sum + area_term(a, b);

@@ -9,7 +9,8 @@ use crate::{Accepted, Job, Options};
 use geometry::Outline;
 use state::{Lent, Refusal, outside, sum_of, wrong_coordinate};
 
-// The lengths of the four lent buffers one by one, for who has no buffers yet.
+// The lengths of the four lent buffers come one by one up to `check_with`, which who has no buffers may ask; here `check` alone does, from
+// its `Lent`. A struct of the four would be made there for the one call, and taken apart here.
 fn wrong_lengths(points: usize, quads: usize, front_nodes: usize, front_lengths: usize) -> bool
     ensures { result ≡ inputs.wrong_lengths (lengths_of points quads front_nodes front_lengths) }
 {
@@ -90,7 +91,7 @@ fn wrong_options(h: f64, options: Options) -> bool
 }
 
 impl<'a> Job<'a> {
-    // The test of a job and of the lengths of the lent buffers: the job, as the calls go on with it.
+    // The test of a job and of the lengths of the buffers that it is to be made in: the job, as the calls go on with it.
     pub fn check_with(
         &self,
         points: usize,

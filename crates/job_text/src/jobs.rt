@@ -18,7 +18,7 @@ pub struct JobRead {
 }
 
 impl JobRead {
-    // The job, in the buffers that it was read into, with the default options.
+    // The job, in the buffers that it was read into, with the default options. The two come one by one: this makes them one value.
     pub fn job<'a>(self, coords: &'a [f64], loop_lengths: &'a [u16]) -> Job<'a>
         requires { (self.pairs * 2 ≤ length coords.now) × (self.loops ≤ length loop_lengths.now) }
         ensures { job_of result ≡ job (take (self.pairs * 2) coords.now) (take self.loops loop_lengths.now) self.size defaults }
@@ -48,7 +48,8 @@ impl TextError {
     }
 }
 
-// The job of a text, with its points and loop lengths from the first place of the buffers on.
+// The job of a text, with its points and loop lengths from the first place of the buffers on, which come one by one: only `JobRead::job`
+// makes the filled parts one value.
 pub fn read_job(
     text: &[u8],
     coords: &mut [f64],

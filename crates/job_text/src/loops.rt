@@ -1,6 +1,6 @@
 // The loops of a job's text. Points and lengths are stored while they fit, and all are counted: reading goes on to the text's end,
 // since an unreadable text is 11 however many points come before. The two buffers, and that they have a job's lengths, come one by one:
-// a struct of them would be made in one place and taken apart in each of three.
+// a struct of them would be made for the one call of `read_loops`, and taken apart in it and in `read_holes`, which store to each by turns.
 ghost use Rattle.std.specs.Prelude.{◌≡◌, ◌*◌, ◌≤◌, length, drop};
 ghost use Rattle.input.specs.Job.{loop_limit, pair_limit};
 ghost use Rattle.job_text.specs.Answers.{LoopReadIs, holes_at, loops_from, storing, stored, stored_in};

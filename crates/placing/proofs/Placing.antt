@@ -2,7 +2,7 @@
 use mathlib.Core.Path.{◌≡◌, refl, sym, ap, ◌∙◌}
 use mathlib.Core.Bool.{Bool, true, false, cond, ◌&&◌}
 use mathlib.Core.List.{List, [], ◌∷◌, ◌++◌}
-use Prim.Native.Nat.{ℕ, zero, suc, ◌+◌, ◌-◌, ◌*◌, ◌%◌, ◌≤◌, ◌<◌}
+use Prim.Native.Nat.{ℕ, zero, suc, ◌+◌, ◌-◌, ◌*◌, ◌%◌, ◌≤◌, ◌<◌, max}
 use native.Mathlib.Nat.{add-zero, add-suc}
 use native.Mathlib.Numerals.{add-one}
 use native.Mathlib.Omega.{arith}
@@ -11,9 +11,11 @@ use lib.Dec.{eqb, ltb}
 use lib.Seq.{sets}
 use lib.Ieee.{Float, lt}
 use borrow.Author.Tests.{lt-ltb, le-ltb, ltb-true, ltb-false, eqb-true, eqb-false}
-use Rattle.float.specs.Helpers.{decimal}
+use Rattle.float.specs.Helpers.{decimal, round_away}
+use Rattle.geometry.specs.F64.{◌⊗◌, ◌⊘◌}
 use Rattle.geometry.specs.declared.Point.{Point}
 use Rattle.geometry.specs.Rings.{Ring, next}
+use Rattle.planning.proofs.Planning.{inner_is}
 use Rattle.planning.specs.Plan.{margin, side_at, span, inner, inner_sum, longest, total, planned, parts}
 use Rattle.placing.specs.Placed.{inner_point, inner_points, placed}
 use Rattle.placing.specs.Placing.{between, betweens}
@@ -46,6 +48,11 @@ module _ (h corner_margin : Float) (r : Ring) where
   same_inner i k zero = refl
   same_inner i k (suc j) =
       ap (λ (t : List Float). t ++ ((between (r.at i) (r.at (next r.size i)) (side_at r i) (margin h corner_margin r i) (span h corner_margin r i) k j).x ∷ (between (r.at i) (r.at (next r.size i)) (side_at r i) (margin h corner_margin r i) (span h corner_margin r i) k j).y ∷ [])) (same_inner i k j)
+
+  -- how many parts the code finds on a side
+  pub parts_found : (i extra : ℕ) {s : Float} {k p : ℕ} → s ≡ span h corner_margin r i → k ≡ cond (lt s (decimal 6 1 ⊗ h)) 0 (max 1 (round_away (s ⊘ h)))
+      → p ≡ k + extra → parts h corner_margin r i ≡ inner h corner_margin r i + extra → p ≡ parts h corner_margin r i
+  parts_found i extra hs hk hp more = let e = inner_is h corner_margin r i _ _ hs hk in omega (arith, e, hp, more)
 
   length_inner : (i k j : ℕ) → length (inner_points h corner_margin r i k j) ≡ j * 2
   length_inner i k j = ap length (same_inner i k j) ∙ length_betweens _ _ _ _ _ k j

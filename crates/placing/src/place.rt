@@ -128,6 +128,7 @@ pub fn place(
     ensures { points.new ≡ sets points.old (at * 2) (laid.placed spacing.h spacing.corner_margin (read_ring ring.entry) ring.entry.n) }
 {
     let mut placed = 0;
+    // by place: `place_side` asks the ring, which has no iterator, at the same place as the two slices
     for i in 0..ring.n {
         placed += place_side(
             ring,

@@ -59,7 +59,7 @@ pub fn keep_points(given: &FirstPoints<'_>, h: f64, kept: &mut [f64]) -> usize
 {
     let limit = closeness(h);
     let mut m = 0usize;
-    // by place, as a ring is asked
+    // by place: chunks of two numbers would have to be made points by hand, which `at` does
     for k in 0..given.n {
         m = keep_point(kept, m, given.at(k), limit);
     }

@@ -88,6 +88,7 @@ fn plan_measured(n: usize, h: f64, lengths: &[f64], spans: &mut [f64]) -> Plan
         length: -1.0,
     };
     let mut start = first;
+    // by place: the margin at the next place is read while the span at this one is written
     for i in 0..n {
         let end = margin_behind(spans, first, geometry::next_of(n, i));
         let length = lengths[i];

@@ -59,6 +59,7 @@ fn square_sides(ring: LoopRing<'_>, spacing: Spacing, squares: &mut [f64], margi
 {
     let mut b = ring.at(0);
     let mut d = toward(ring.at(ring.n - 1), b);
+    // by place: after `iter_mut().zip(..)` a proof knows nothing of what was written
     for i in 0..ring.n {
         let c = ring.at(geometry::next_of(ring.n, i));
         let e = toward(b, c);

@@ -1,4 +1,5 @@
-// The checks of a candidate row that ask where its new points stand. A row is asked by place, so the walks go over its places.
+// The checks of a candidate row that ask where its new points stand. By place: a row is a `Ring`,
+// which has no iterator; one would be one more type with its laws.
 ghost use Rattle.std.specs.Prelude.{◌≡◌};
 ghost use Rattle.geometry.specs.Domain.{rings};
 ghost use Rattle.rules.specs.Checks.{all_clear_of, all_inside, all_off_boundary};

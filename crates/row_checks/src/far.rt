@@ -1,6 +1,6 @@
 // A front that is surely clear of a row. Side by side: what a side gives to the distance of any point is taken once, and the row's
-// points, which a row gives by place, are looked at without an early end, so that they can be taken two at a time. Where one square is below the bound nothing is
-// decided: `own_or_clear` then measures the front.
+// points are looked at by place, since a row has no iterator, which would be one more type with its laws, and without an early end, so
+// that they can be taken two at a time. Where one square is below the bound nothing is decided: `own_or_clear` then measures the front.
 ghost use Rattle.std.specs.Prelude.{◌≡◌};
 ghost use Rattle.row_checks.specs.Far.{all_far, far_side, is_bound};
 

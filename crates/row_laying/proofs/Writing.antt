@@ -22,6 +22,7 @@ use Rattle.rules.specs.Checks.{row_quads}
 use Rattle.rules.specs.Row.{front, committed}
 use Rattle.rules.proofs.RowSides.{row-length}
 use Rattle.row_laying.specs.Room.{Room}
+use Rattle.row_laying.specs.Laid.{with_row}
 
 -- ---- a front replaced where it stands
 
@@ -127,19 +128,7 @@ module _ (b : Held) (sound : Sound b) (clean : Clean b) (li n : ℕ) (row : List
   others_after = (refl, refl, refl)
 
   -- the counts after it
-  abbrev pub counts-after : Counts
-  counts-after = record {
-    points = b.counts.points + n;
-    quads = b.counts.quads + n;
-    fronts = b.counts.fronts;
-    row_quads = b.counts.row_quads + n;
-    core_quads = b.counts.core_quads;
-    row_rounds = b.counts.row_rounds + 1;
-    passes_begun = b.counts.passes_begun;
-    laid = b.counts.quads + n;
-  }
-
-  counts_field : counts-after ≡ (written (committed (reading b) li row)).counts
+  counts_field : with_row b.counts n ≡ (written (committed (reading b) li row)).counts
   unfolding written
   counts_field = rw (points_count, quads_after, fronts_after, row_quads_after, others_after.0, others_after.1, others_after.2, laid_after)
 
@@ -148,7 +137,7 @@ module _ (b : Held) (sound : Sound b) (clean : Clean b) (li n : ℕ) (row : List
       → old ≡ get_or (cut (sizes_of b) b.front_nodes) li []
       → Q ≡ sets b.quads (b.counts.quads * 4) (numbers (row_quads old b.counts.points (length old)))
       → N ≡ sets b.front_nodes start (numbered b.counts.points n)
-      → C ≡ counts-after
+      → C ≡ with_row b.counts n
       → held P Q N b.front_lengths C ≡ written (committed (reading b) li row)
   unfolding after
   laid_is_lem {old = old} h_p ho h_q h_n h_c = same_held (h_p ∙ points_field) (h_q ∙ quads_of_cut old ho) (h_n ∙ nodes-field) lengths-field (h_c ∙ counts_field)

@@ -12,7 +12,7 @@ use state::{Refusal, narrow, put_numbers};
 
 // Samples the loops in turn and writes their nodes from the fronts of the lent buffers on; answers how many nodes they have. `buffer`,
 // `lengths` and `spans` are for the work. Three of the lent buffers and no `Lent`: the fourth, the quads, is not touched, and no clause
-// has to say so. How many nodes there are so far goes from loop to loop.
+// has to say so. How many nodes there are so far goes from loop to loop: `try_fold` would have the sum, and the call, in a closure.
 fn loops_in_turn(
     job: &Accepted,
     points: &mut [f64],

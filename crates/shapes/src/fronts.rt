@@ -59,7 +59,7 @@ fn put_dot(w: &mut Writer, p: Point)
     w.bytes(b"h0");
 }
 
-// By place, as a ring is asked.
+// By place: a `Ring` has no iterator, which would be one more type with its laws for this walk.
 fn put_dots(w: &mut Writer, nodes: &FirstPoints)
     requires { Fits w.old (dots_text nodes.now.pts.now (numbered 0 nodes.now.n)) }
     ensures put { Wrote w.old (dots_text nodes.now.pts.now (numbered 0 nodes.now.n)) w.new }

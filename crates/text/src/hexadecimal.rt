@@ -5,17 +5,16 @@ ghost use Rattle.std.specs.Float.{binary64};
 ghost use Rattle.std.specs.Float.Ieee.{to_bits};
 ghost use Rattle.text.specs.Hex.{hex_digit, hex_value, hex_spelled};
 
-// 58 and 71 are the places behind '9' and 'F', as in the definition.
 fn hex_value(d: u8) -> u64
     ensures { (result ≡ hex_value d) × (result < 16) }
 {
-    if d < 48 {
+    if d < b'0' {
         return 0;
     }
-    if d < 58 {
+    if d <= b'9' {
         return u64::from(d - b'0');
     }
-    if d < 71 {
+    if d <= b'F' {
         return u64::from(d - b'7');
     }
     0

@@ -69,7 +69,7 @@ impl Writer<'_> {
     {
         let end = self.at + places(n);
         let mut rest = n;
-        // the lowest digit first, since it is known first
+        // the lowest digit first, since it is known first, and by place: after `iter_mut().rev()` a proof knows nothing of what was written
         for i in (self.at + 1..end).rev() {
             // as, here and below: below 10, so the error of try_from could not occur
             self.out[i] = b'0' + (rest % 10) as u8;
@@ -85,7 +85,7 @@ impl Writer<'_> {
         ensures same { Same self.old self.new }
     {
         let mut rest = bits;
-        // from the end, as the digits come; the place is needed
+        // from the end, as the digits come, and by place: after `iter_mut().rev()` a proof knows nothing of what was written
         for i in (0..16).rev() {
             self.out[self.at + i] = hex_digit(rest % 16);
             rest /= 16;

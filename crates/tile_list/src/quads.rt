@@ -19,7 +19,8 @@ fn different(nodes: &[u16; 4]) -> bool
     c != d
 }
 
-// closing_search has the same of its own quads; it stands above the rules, and a list's quads are std's arrays of four.
+// closing_search has the same of its own quads; it stands above the rules, and a list's quads are std's arrays of four. The clause, here
+// and in `all_pass`, and no `NodePoints`: one would be made for each quad, from this same fact of its nodes.
 fn passes(points: &[f64], nodes: &[u16; 4], limit: f64) -> bool
     requires { (i : ℕ) → i < 4 → get_or nodes.now i 0 * 2 + 1 < length points.now }
     ensures { result ≡ quad_passes limit points.now (quad_of nodes.now) }

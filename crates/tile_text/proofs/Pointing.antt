@@ -8,16 +8,18 @@ use borrow.Author.Tests.{lt-ltb, le-ltb}
 use lib.Dec.{T}
 use lib.Ieee.{Float, nan, inf, fin, binary64, fits, is_nan, nan_bits, of_bits, to_bits}
 use lib.Ieee.Bits.{nan_bits_above, nan_bits_is, of_bits-to_bits, to_bits-lt}
-use lib.ListN.{length, get_or, drop, length-drop}
-use lib.Seq.{sets, slice}
+use lib.ListN.{length, get_or, take, drop, length-append, length-drop, get_or-append}
+use lib.Seq.{sets, slice, drop-drop, drop_at}
+use Rattle.std.proofs.lemmas.List.{take-append-le, drop-append-le, get_or-drop}
 use Rattle.float.specs.Helpers.{is_finite}
 use Rattle.text.specs.Hex.{bits_text, hex_spelled}
 use Rattle.text.proofs.Digits.{length_hex}
+use Rattle.text.proofs.FieldLaws.{drop-take}
 use Rattle.text.proofs.HexLaws.{hex_text_spelled}
 use Rattle.answer_text.specs.AnswerText.{tab, lf, points_text}
 use Rattle.tile_text.specs.Plain.{FiniteF64s}
 use Rattle.tile_text.specs.Fields.{Unlike, PointsReadIs}
-use Rattle.tile_text.proofs.Going.{first_there, unlike_same, here, behind}
+use Rattle.tile_text.proofs.Going.{first_there, unlike_other, unlike_same, here, behind}
 
 -- ---- patterns
 
@@ -153,7 +155,7 @@ module _ (t : List ℕ) (at : ℕ) (old : List Float) where
                 finite = finite_rest u v ls f;
               }
 
-      pub left_step : Left t at old newer (next + 36) (count + 1)
+      left_step : Left t at old newer (next + 36) (count + 1)
       left_step =
           let w = l.within in
           record { within = (omega arith, omega arith); is = λ n xs rest p f e o. one_less n xs rest o (l.is n xs rest p f e o) }
@@ -173,8 +175,43 @@ module _ (t : List ℕ) (at : ℕ) (old : List Float) where
       done : PointsReadIs t at old new (record { value = count; next = next })
       done = record { within = l.within; is = λ n xs rest p f e o. none_left n xs rest (l.is n xs rest p f e o) }
 
-    pub left_other : Unlike 112 (drop next t) → PointsReadIs t at old new (record { value = count; next = next })
-    left_other o = done (λ x y ls rest e. unlike_same 112 _ (drop next t) o (e ∙ points_more x y ls rest))
+    done_other : Unlike 112 (drop next t) → PointsReadIs t at old new (record { value = count; next = next })
+    done_other o = done (λ x y ls rest e. unlike_same 112 _ (drop next t) o (e ∙ points_more x y ls rest))
 
     pub left_short : length t - next < 36 → PointsReadIs t at old new (record { value = count; next = next })
     left_short h = done (λ x y ls rest e. line_long t next x y ls rest e h)
+
+    -- the line that stands there, as the code takes it
+    module _ (p r : List ℕ) (e : drop next t ≡ p ++ r) (long : length p ≡ 36) where
+      letter : get_or p 0 0 ≡ get_or t next 0
+      letter =
+          let n : next + 0 ≡ next = omega arith in
+          sym (get_or-append p r 0 0 (omega arith)) ∙ ap (λ l. get_or l 0 0) (sym e) ∙ rw n at (get_or-drop next t 0 0)
+
+      digits : (i : ℕ) → i + 16 ≤ 36 → slice i (i + 16) p ≡ slice (next + i) (next + i + 16) t
+      digits i h =
+          let whole : drop (next + i) t ≡ drop i p ++ r = sym (drop-drop i next t) ∙ ap (drop i) e ∙ drop-append-le i p r (omega arith) in
+          let l = length-drop i p in
+          drop-take i 16 p ∙ sym (take-append-le 16 (drop i p) r (omega arith)) ∙ ap (take 16) (sym whole) ∙ sym (drop-take (next + i) 16 t)
+
+      fits_line : 36 ≤ length t - next
+      fits_line =
+          let l = length-drop next t in
+          let k = ap length e ∙ length-append p r in
+          omega arith
+
+      pub next_line : drop (next + 36) t ≡ r
+      next_line = sym (drop-drop 36 next t) ∙ ap (drop 36) e ∙ drop_at p r 36 long
+
+      module _ (b : get_or p 0 0 ≡ 112) (xb yb : ℕ) (x y : Float)
+          (xd : xb ≡ hex_spelled 0 (slice 2 18 p)) (xn : nan_bits binary64 xb ≡ false → x ≡ of_bits binary64 xb)
+          (yd : yb ≡ hex_spelled 0 (slice 19 35 p)) (yn : nan_bits binary64 yb ≡ false → y ≡ of_bits binary64 yb)
+          (newer : List Float) (stored : newer ≡ sets new (count * 2) (x ∷ y ∷ [])) where
+        pub left_line : Left t at old newer (next + 36) (count + 1)
+        left_line =
+            left_step fits_line (sym letter ∙ b) xb yb x y (xd ∙ ap (hex_spelled 0) (digits 2 (omega arith))) xn (yd ∙ ap (hex_spelled 0) (digits 19 (omega arith))) yn newer stored
+
+      pub left_other : (get_or p 0 0 ≡ 112 → ⊥) → PointsReadIs t at old new (record { value = count; next = next })
+      left_other n =
+          let h : next < length t = omega (arith, fits_line) in
+          done_other (unlike_other t next 112 h (λ b. n (letter ∙ b)))

@@ -22,18 +22,18 @@ pub fn read_points(text: &[u8], at: usize, points: &mut [f64]) -> Read<usize>
     requires { (at ≤ length text.now) × (length points.old ≡ points_length) }
     ensures { PointsReadIs text.now at points.old points.new result }
 {
-    let mut next = at;
     let mut count = 0usize;
-    // by the place behind each line: chunks of 36 bytes would go on into the lines behind the points, which have other lengths
-    while 36 <= text.len() - next {
-        if text[next] != b'p' {
-            return Read { value: count, next };
+    for line in text[at..].chunks_exact(36) {
+        if line[0] != b'p' {
+            break;
         }
-        let x = coordinate(hex(text, next + 2));
-        let y = coordinate(hex(text, next + 19));
+        let x = coordinate(hex(line, 2));
+        let y = coordinate(hex(line, 19));
         store_point(points, count, x, y);
         count += 1;
-        next += 36;
     }
-    Read { value: count, next }
+    Read {
+        value: count,
+        next: at + count * 36,
+    }
 }

@@ -18,8 +18,8 @@ returns-in-Err g c b =
     let side = c.in-Err.ensures in
     nearer _ _ b _ _ (barred _ _ best.clearance best.square best.squared _ side.0 refl side.1)
 
-pub invariant_of-result-then-contains : goal.invariant_of-result-then-contains
-invariant_of-result-then-contains g c = record { squared = now_squared _ _ c.in-Ok.ensures c.root-clearance.ensures }
+pub invariant_of-result : goal.invariant_of-result
+invariant_of-result g c = record { squared = now_squared _ _ c.in-Ok.ensures c.root-clearance.ensures }
 
 pub returns-then-contains : goal.returns-then-contains
 returns-then-contains g c b =

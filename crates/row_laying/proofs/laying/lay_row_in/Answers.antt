@@ -1,6 +1,5 @@
 -- `row_laying::laying::lay_row_in` meets its contract.
 use mathlib.Core.Path.{refl}
-use native.Mathlib.Omega.{arith}
 use Rattle.state.specs.State.{Held}
 use Rattle.state.specs.Lent.{held_in}
 use Rattle.state.specs.Sound.{sizes_of}
