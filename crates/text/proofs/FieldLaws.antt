@@ -1,17 +1,18 @@
 -- Laws of fields and of words at the head of a text.
 use mathlib.Core.Path.{◌≡◌, refl, sym, ◌∙◌, ap}
-use mathlib.Core.Bool.{Bool, true, false, not, cond, ◌&&◌}
+use mathlib.Core.Bool.{Bool, true, false, not, cond, ◌&&◌, ◌||◌, true≢false}
 use mathlib.Core.List.{List, [], ◌∷◌}
 use mathlib.Core.Option.{none, some}
-use Prim.Native.Nat.{ℕ, zero, suc, ◌+◌, ◌-◌, ◌≤◌, zero-le, suc-le-suc}
+use Prim.Native.Nat.{ℕ, zero, suc, ◌+◌, ◌-◌, ◌≤◌, ◌<◌, zero-le, suc-le-suc}
 use native.Mathlib.Nat.{zero-add, suc-add}
 use native.Mathlib.Omega.{arith}
-use borrow.Author.Tests.{ne_eqb, ltb-false}
+use borrow.Author.Tests.{ne_eqb, ltb-false, lt-ltb, le-ltb}
 use lib.Dec.{eqb, ltb}
 use lib.ListN.{length, take, drop, length-drop}
 use lib.Seq.{drop-drop, slice, take-nil, length-slice, take_all}
 use Rattle.std.specs.Prelude.{Option, Some, None}
-use Rattle.std.specs.List.{position, position_or_len, starts_with}
+use Rattle.std.specs.Option.{unwrap_or}
+use Rattle.std.specs.List.{list_any, position, position_or_len, starts_with}
 use Rattle.text.specs.Fields.{ends_field, field, after_field, field_end, behind}
 
 -- ---- a field is what stands before its end, and what comes after it stands from there on
@@ -59,30 +60,57 @@ first_end (b ∷ bs) = by (ends_field b) (first_end bs)
 pub tail_is : (t : List ℕ) (at : ℕ) → take (length t - at) (drop at t) ≡ drop at t
 tail_is t at = take_all (length t - at) (drop at t) (let l = length-drop at t in omega arith)
 
-module _ (t : List ℕ) (at : ℕ) (h : at ≤ length t) where
-  abbrev found : ℕ
-  found = position_or_len ends_field (drop at t)
+-- the place of the first is how many bytes stand before it, and all stand before the end where there is none
+pub before_first : (t : List ℕ) {o : Option ℕ} → o ≡ position ends_field t → unwrap_or o (length t) ≡ length (field t)
+before_first t e = rw e (by (ltb (position_or_len ends_field t) (length t)) refl)
+  where
+    by : (b : Bool) → ltb (position_or_len ends_field t) (length t) ≡ b → unwrap_or (cond b (Some (position_or_len ends_field t)) None) (length t) ≡ length (field t)
+    by true i = first_end t
+    by false i =
+        let m = ltb-false (position_or_len ends_field t) (length t) i in
+        let s = field_short t in
+        let f = first_end t in
+        omega arith
 
-  pub end_some : {n : ℕ} → Some n ≡ position ends_field (take (length t - at) (drop at t)) → at + n ≡ field_end t at
-  unfolding field_end
-  end_some {n} e = by (ltb found (length (drop at t))) (e ∙ rw (tail_is t at))
-    where
-      by : (b : Bool) → Some n ≡ cond b (Some found) None → at + n ≡ at + length (field (drop at t))
-      by true i = let s : n ≡ found = cc in ap (λ k. at + k) (s ∙ first_end (drop at t))
-      by false i = cc
+-- a byte that ends a field is there, or none is
+some_place : (t : List ℕ) → list_any ends_field t ≡ true → length (field t) < length t
+unfolding field
+some_place [] e = absurd (true≢false (sym e))
+some_place (b ∷ bs) e = by (ends_field b) (some_place bs) e
+  where
+    by : (x : Bool) → (list_any ends_field bs ≡ true → length (field bs) < length bs) → (x || list_any ends_field bs) ≡ true → length (cond x [] (b ∷ field bs)) < suc (length bs)
+    by true i e = omega arith
+    by false i e = suc-le-suc (i e)
 
-  pub end_none : None ≡ position ends_field (take (length t - at) (drop at t)) → length t ≡ field_end t at
-  unfolding field_end
-  end_none e = by (ltb found (length (drop at t))) refl (e ∙ rw (tail_is t at))
+no_place : (t : List ℕ) → list_any ends_field t ≡ false → length (field t) ≡ length t
+unfolding field
+no_place [] e = refl
+no_place (b ∷ bs) e = by (ends_field b) (no_place bs) e
+  where
+    by : (x : Bool) → (list_any ends_field bs ≡ false → length (field bs) ≡ length bs) → (x || list_any ends_field bs) ≡ false → length (cond x [] (b ∷ field bs)) ≡ suc (length bs)
+    by true i e = absurd (true≢false e)
+    by false i e = ap suc (i e)
+
+module _ (t : List ℕ) where
+  pub place_is : {n : ℕ} → list_any ends_field t ≡ true → n ≡ length (field t) → Some n ≡ position ends_field t
+  place_is e h = rw (first_end t, lt-ltb (length (field t)) (length t) (some_place t e)) (ap Some h)
+
+  pub no_place_is : list_any ends_field t ≡ false → ◌≡◌ {A = Option ℕ} None (position ends_field t)
+  no_place_is e = rw (first_end t, le-ltb (length (field t)) (length t) (omega (arith, no_place t e))) refl
+
+  pub found_is : {n : ℕ} → Some n ≡ position ends_field t → (n ≡ length (field t)) × (list_any ends_field t ≡ true)
+  found_is {n} h = by (list_any ends_field t) refl
     where
-      by : (b : Bool) → ltb found (length (drop at t)) ≡ b → ◌≡◌ {A = Option ℕ} None (cond b (Some found) None) → length t ≡ at + length (field (drop at t))
-      by true j i = cc
-      by false j i =
-          let l = length-drop at t in
-          let m = ltb-false found (length (drop at t)) j in
-          let s = field_short (drop at t) in
-          let f = first_end (drop at t) in
-          omega arith
+      by : (x : Bool) → list_any ends_field t ≡ x → (n ≡ length (field t)) × (list_any ends_field t ≡ true)
+      by true e = let s : Some n ≡ Some (length (field t)) = h ∙ sym (place_is e refl) in (cc, e)
+      by false e = let s : ◌≡◌ {A = Option ℕ} (Some n) None = h ∙ sym (no_place_is e) in cc
+
+  pub none_found : ◌≡◌ {A = Option ℕ} None (position ends_field t) → list_any ends_field t ≡ false
+  none_found h = by (list_any ends_field t) refl
+    where
+      by : (x : Bool) → list_any ends_field t ≡ x → list_any ends_field t ≡ false
+      by true e = let s : ◌≡◌ {A = Option ℕ} None (Some (length (field t))) = h ∙ sym (place_is e refl) in cc
+      by false e = e
 
 pub none_ends : (b : ℕ) → (b ≡ 9 → ⊥) → (b ≡ 10 → ⊥) → ends_field b ≡ false
 none_ends b n m = rw (ne_eqb b 9 n, ne_eqb b 10 m)

@@ -1,4 +1,6 @@
 pub mod FieldLaws
+pub mod Bytes
+pub mod Searching
 pub mod Spelling
 pub mod Midst
 pub mod Digits

@@ -1,4 +1,5 @@
 pub mod Decimal
+pub mod Eight
 pub mod Fields
 pub mod Number
 pub mod Hex

@@ -1,6 +1,7 @@
 // Text as bytes: whole numbers in decimal digits, where a field ends, and words. It knows of no job.
 #![tactic(auto)]
 
+mod eight;
 mod fields;
 mod hexadecimal;
 mod numbers;
