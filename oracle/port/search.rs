@@ -86,7 +86,8 @@ impl Seen {
 const NEAR: [u8; 9] = [8, 9, 10, 11, 0x89, 0x8A, 0x80, 0, 255];
 
 /// Every word with one or two of the nine bytes, each at every place, among three other bytes; with 0 to 15 bytes before it and 0 to 17
-/// behind it, so that the texts are 0 to 17 bytes longer than eight and sixteen, and than others.
+/// behind it, so that the texts are 0 to 17 bytes longer than eight and than sixteen,
+/// each length in between.
 fn words(library: &Library) -> u64 {
     let mut seen = Seen { texts: 0, searches: 0, ends: 0, different: 0 };
     for other in [b'5', 0x7F, 0xF6] {
@@ -114,7 +115,7 @@ fn words(library: &Library) -> u64 {
     seen.different
 }
 
-/// Texts of 0 to 99 bytes, each byte one of the nine, an end, or any.
+/// Texts of 0 to 99 bytes, each byte one of the nine or any, in shares that differ from text to text.
 fn mixed(library: &Library) -> u64 {
     let mut seen = Seen { texts: 0, searches: 0, ends: 0, different: 0 };
     let mut state = 1u64;
@@ -167,19 +168,18 @@ fn fields(now: &Library, before: &Library, what: &str, length: impl Fn(usize) ->
     println!("a field of {what}: {:.2} ns for {:.2}, ratio {:.2}", after / count as f64, earlier / count as f64, after / earlier);
 }
 
-/// As many points as fit into a text, on a circle of this radius, and a last line that is none: all of it is read.
+/// As many points as fit into a text, on a circle of this radius, more than a job can have: 1 is answered when all of it is read.
 fn reading(now: &Library, before: &Library, radius: f64) {
     let mut text = b"size\t1000\nouter\n".to_vec();
     for i in 0.. {
         let angle = i as f64 * 0.001;
         let line = format!("at\t{}\t{}\n", (radius * angle.cos()) as i64, (radius * angle.sin()) as i64);
-        if text.len() + line.len() + 4 > 65_536 {
+        if text.len() + line.len() > 65_536 {
             break;
         }
         text.extend(line.bytes());
     }
-    text.extend(b"end\n");
-    assert!(now.read(&text) == 11 && before.read(&text) == 11, "unreadable");
+    assert!(now.read(&text) == 1 && before.read(&text) == 1, "all of it is read, and has too many points");
     let [after, earlier] = least([now, before], |library| {
         black_box(library.read(black_box(&text)));
     });

@@ -6,7 +6,8 @@ ghost use Rattle.job_text.specs.Answers.{measure_of, as_whole, line_of};
 use geometry::Point;
 use text::{Read, behind, field_end, natural};
 
-// The coordinate in the field from `at` on. Inlined: with calls the reading of a long text takes a seventh more.
+// The coordinate in the field from `at` on. Inlined: the answer of a call goes through memory, and the
+// next search waits for its place (docs/changes/04-words.md).
 #[inline(always)]
 fn read_whole(text: &[u8], at: usize) -> Option<Read<f64>>
     requires { at ≤ length text.now }

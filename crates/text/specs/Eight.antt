@@ -7,6 +7,6 @@ unfoldable pub word_of : List ℕ → ℕ
 word_of [] = 0
 word_of (b ∷ bs) = b + 256 * word_of bs
 
--- the highest bit of a byte that ends a field
+-- 128, the highest bit, for a byte that ends a field, and 0 for any other
 abbrev pub end_flag : ℕ → ℕ
 end_flag b = cond (ends_field b) 128 0

@@ -1,4 +1,4 @@
-// Where a field of a text ends, and words in a text. A text is only read: each function answers the
+// Where a field of a text ends, and the words of its language, which `behind` looks for. A text is only read: each function answers the
 // place behind what it read, as document 01's definitions go on by what is left of a text, so no reader holds text and place together.
 ghost use Rattle.std.specs.Prelude.{◌≡◌, ◌≤◌, length, drop};
 ghost use Rattle.text.specs.Fields.{field, field_end, behind, place_behind};
@@ -15,7 +15,7 @@ fn before_end_singly(bytes: &[u8]) -> usize
         .unwrap_or(bytes.len())
 }
 
-// The same of a few bytes: a word, where there are eight, and the last singly.
+// The same of a few bytes: eight as one number, where there are eight, and the others singly.
 #[inline(never)]
 fn before_end_near(bytes: &[u8]) -> usize
     ensures { result ≡ length (field bytes.now) }
@@ -29,7 +29,7 @@ fn before_end_near(bytes: &[u8]) -> usize
     }
 }
 
-// The same of many bytes, two words a turn.
+// The same of many bytes, twice eight a turn.
 #[inline(never)]
 fn before_end_far(bytes: &[u8]) -> usize
     ensures { result ≡ length (field bytes.now) }
@@ -43,7 +43,7 @@ fn before_end_far(bytes: &[u8]) -> usize
     pairs.len() * 16 + before_end_near(last)
 }
 
-// The same of any bytes. Most fields of a job end in the first word, which is looked at here; what comes behind it, and a text's last
+// The same of any bytes. Most fields of a job end in the first eight, which are looked at here; what comes behind them, and a text's last
 // bytes, are left to functions of their own, so that this one is small where it is called.
 fn before_end(bytes: &[u8]) -> usize
     ensures { result ≡ length (field bytes.now) }
