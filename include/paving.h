@@ -16,8 +16,8 @@
  * may call at once, each with buffers of its own.
  *
  * Stack: a call works on the caller's stack and takes no other memory. The most that was measured (oracle/compare stack, over
- * 2,019 jobs and 6,016 states, in threads of 256 KiB): pave_job 100,615 bytes, pave_sample 66,775, pave_row 37,927, pave_close
- * 6,071, pave_fan 5,431, and each call of paving_geometry.h at most 263.
+ * 2,019 jobs and 6,016 states, in threads of 256 KiB): pave_job 100,615 bytes, pave_sample 66,759, pave_row 37,911, pave_close
+ * 6,087, pave_fan 5,431, and each call of paving_geometry.h at most 263.
  */
 #ifndef PAVING_H
 #define PAVING_H

@@ -1,7 +1,7 @@
 /* A job's text in, the answer's text out: what the program pave does with standard input and standard output.
  *
  * What paving.h says of slices, threads and the caller's part holds here too. Its stack:
- * 234,935 bytes were the most that was measured (oracle/compare stack, over 2,000 texts), the job's own buffers among them, so
+ * 202,103 bytes were the most that was measured (oracle/compare stack, over 2,000 texts), the job's own buffers among them, so
  * that a thread with 256 KiB gets an answer.
  */
 #ifndef PAVING_TEXT_H

@@ -1,5 +1,5 @@
 -- The text of numbers, points, quads and fronts, one a turn.
-use mathlib.Core.Path.{◌≡◌, refl, sym, ap}
+use mathlib.Core.Path.{◌≡◌, refl, sym, ◌∙◌, ap}
 use mathlib.Core.List.{List, [], ◌∷◌, ◌++◌, map, append_assoc}
 use Prim.Native.Nat.{ℕ, zero, suc, ◌+◌, ◌*◌, ◌/◌, ◌<◌, ◌≤◌}
 use native.Mathlib.Numerals.{add-one}
@@ -13,6 +13,11 @@ use Rattle.text.specs.Decimal.{decimal_text}
 use Rattle.answer_text.specs.AnswerText.{tab, numbers_text, line_text, lines_text, point_text, points_text}
 
 -- ---- numbers
+
+pub numbers-append : (xs ys : List ℕ) → numbers_text (xs ++ ys) ≡ numbers_text xs ++ numbers_text ys
+unfolding numbers_text
+numbers-append [] ys = refl
+numbers-append (x ∷ xs) ys = ap (λ t. (tab ∷ decimal_text x) ++ t) (numbers-append xs ys) ∙ sym (append_assoc (tab ∷ decimal_text x) (numbers_text xs) (numbers_text ys))
 
 pub numbers-next : (l : List ℕ) (i v : ℕ) → i < length l → v ≡ get_or l i 0 → numbers_text (drop i l) ≡ (tab ∷ decimal_text v) ++ numbers_text (drop (i + 1) l)
 unfolding numbers_text

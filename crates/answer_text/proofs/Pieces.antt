@@ -1,24 +1,29 @@
 -- The text of a state in four pieces, as the code puts it, and that every text fits.
 use mathlib.Core.Path.{◌≡◌, refl, ap}
 use mathlib.Core.Bool.{false}
-use mathlib.Core.List.{List, [], ◌∷◌, ◌++◌, map}
-use Prim.Native.Nat.{ℕ, ◌+◌, ◌*◌, ◌≤◌}
+use mathlib.Core.List.{List, [], ◌∷◌, ◌++◌, map, append_assoc}
+use Prim.Native.Nat.{ℕ, ◌+◌, ◌*◌, ◌%◌, ◌≤◌}
 use native.Mathlib.Omega.{arith}
 use lib.Ieee.{Float}
 use lib.ListN.{length, take, length-append}
 use Rattle.state.specs.Outcome.{Outcome, refused, gives}
 use Rattle.state.specs.declared.Counts.{Counts}
-use Rattle.state.specs.State.{Held, quad_nodes, quads_of, cut, counts_of, lengths, no_counts, reading}
+use Rattle.state.specs.State.{State, Held, quad_nodes, quads_of, cut, counts_of, lengths, no_counts, written, reading}
 use Rattle.state.specs.Given.{wrong_state}
 use Rattle.state.specs.Call.{Left, answer_number, number_of, held, left, lent}
 use Rattle.state.specs.Sound.{Sound, sizes_of}
+use Rattle.state.proofs.Written.{reading-written}
 use Rattle.state.proofs.Reading.{Counted, sound_counted, sizes_long, points_long_lem, nodes-read, quads_read, fronts_read}
 use Rattle.text.specs.Putting.{Put, Room}
 use Rattle.state.proofs.Sounding.{sound as not-refused}
-use Rattle.answer_text.specs.AnswerText.{line_text, lines_text, points_text, count_numbers, state_text, refused_text, answer_text}
+use Rattle.answer_text.specs.AnswerText.{numbers_text, line_text, lines_text, points_text, count_numbers, state_text, refused_text, answer_text}
 use Rattle.answer_text.specs.Fits.{text_limit, SoundHeld, SoundAnswer}
-use Rattle.answer_text.proofs.LineLaws.{all_quads, quads_begin}
+use Rattle.answer_text.proofs.LineLaws.{numbers-append, all_quads, quads_begin}
 use Rattle.answer_text.proofs.Lengths.{Nodes, any_numbers, line_length, points_length_lem, quads_length_lem, fronts_length}
+
+-- numbers put in two steps
+pub numbers_split : (xs ys tail : List ℕ) → numbers_text (xs ++ ys) ++ tail ≡ numbers_text xs ++ (numbers_text ys ++ tail)
+numbers_split xs ys tail = rw (numbers-append xs ys) (append_assoc (numbers_text xs) (numbers_text ys) tail)
 
 module _ (b : Held) (sound : Sound b) where
   abbrev counted : Counted b
@@ -44,7 +49,7 @@ module _ (b : Held) (sound : Sound b) where
   unfolding state_text reading
   pieces = ap (λ (ns : List ℕ). line_text (100 ∷ 111 ∷ 110 ∷ 101 ∷ []) ns ++ (points ++ (quads ++ fronts))) counts_read
 
-  quads_within : b.counts.quads * 4 ≤ length b.quads
+  pub quads_within : b.counts.quads * 4 ≤ length b.quads
   quads_within = let n = sound.quads in let l = sound.quads_long in omega arith
 
   -- the text of the slice that the code puts
@@ -96,6 +101,11 @@ module _ (a : Outcome Counts) (p : List Float) (q n l : List ℕ) where
   pub refused_text_lem : (k : ℕ) → a ≡ refused k → refused_text k ≡ answer_text (left a (held p q n l no_counts))
   unfolding answer_text
   refused_text_lem k e = rw e
+
+-- what a job or a call gives, written and answered, has the text of its state
+pub written_text : (s : State) → length s.points % 2 ≡ 0 → answer_text (record { answer = gives (counts_of s); held = written s }) ≡ state_text s
+unfolding answer_text
+written_text s even = ap state_text (reading-written s even)
 
 -- an answer whose buffers have document 01's lengths and are not refused with 25, as a job's are (demand `accepted_back`)
 pub sound_answer : (x : Left) → lengths x.held ≡ lent → (number_of x ≡ 0 → wrong_state x.held ≡ false) → SoundAnswer x

@@ -3,14 +3,14 @@ ghost use Rattle.std.specs.Prelude.{[], ◌∷◌, ◌+◌, ◌≤◌, length};
 ghost use Rattle.state.specs.State.{no_counts, reading};
 ghost use Rattle.state.specs.Call.{left};
 ghost use Rattle.state.specs.Lent.{held_of};
-ghost use Rattle.state.specs.Refusals.{answered};
+ghost use Rattle.state.specs.Refusals.{told};
 ghost use Rattle.state.specs.Sound.{Sound};
 ghost use Rattle.text.specs.Writing.{Fits, Same, Wrote};
 ghost use Rattle.answer_text.specs.AnswerText.{line_text, count_numbers, state_text, refused_text, answer_text};
 ghost use Rattle.answer_text.specs.Fits.{text_limit, SoundAnswer};
 
 use crate::lines::{put_number, put_points, put_quads, put_rings};
-use state::{Buffers, Counts, Refusal, fit_nodes};
+use state::{Buffers, Counts, fit_nodes};
 use text::Writer;
 
 fn put_counts(w: &mut Writer, counts: Counts)
@@ -62,15 +62,16 @@ pub fn put_refused(w: &mut Writer, number: u32)
     w.byte(b'\n');
 }
 
-pub fn put_answer(w: &mut Writer, answer: Result<Counts, Refusal>, held: &Buffers)
+// The text of an answer, whatever number a refusal has.
+pub fn put_answer(w: &mut Writer, answer: Result<Counts, u32>, held: &Buffers)
     requires text_limit_in_bounds { w.old.at + text_limit ≤ length w.old.out.now }
-    requires sound_answer { SoundAnswer (left (answered answer) (held_of held.now no_counts)) }
-    ensures put { Wrote w.old (answer_text (left (answered answer) (held_of held.now no_counts))) w.new }
+    requires sound_answer { SoundAnswer (left (told answer) (held_of held.now no_counts)) }
+    ensures put { Wrote w.old (answer_text (left (told answer) (held_of held.now no_counts))) w.new }
     ensures upper_bound { w.new.at ≤ w.old.at + text_limit }
     ensures same { Same w.old w.new }
 {
     match answer {
         Ok(counts) => put_held(w, held, counts),
-        Err(refusal) => put_refused(w, refusal.number()),
+        Err(number) => put_refused(w, number),
     }
 }

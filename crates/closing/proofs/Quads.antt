@@ -20,7 +20,7 @@ pub two_quads : (d s t : List ℕ) (at : ℕ) (p q : Quad) → s ≡ sets d at (
 unfolding joined
 two_quads d s t at p q hs ht = ht ∙ rw hs (sym (sets-append (quad_nodes p) (quad_nodes q) d at))
 
-few_quads : (c : Closure) → length (closure_quads c) ≤ 2
+pub few_quads : (c : Closure) → length (closure_quads c) ≤ 2
 few_quads Kept = omega arith
 few_quads (One q) = omega arith
 few_quads (Two p q) = omega arith

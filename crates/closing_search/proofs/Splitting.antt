@@ -1,4 +1,4 @@
--- The splits of six nodes, one a turn.
+-- What closes a front: a quad turned or not, four nodes, and the splits of six, one a turn.
 use mathlib.Core.Path.{◌≡◌, refl, sym, ◌∙◌}
 use mathlib.Core.Bool.{Bool, true, false, cond, ◌&&◌, ◌||◌}
 use mathlib.Core.List.{List, [], ◌∷◌}
@@ -9,13 +9,40 @@ use lib.Dec.{eqb}
 use lib.Ieee.{Float, lt}
 use lib.ListN.{length, get_or}
 use Rattle.std.specs.Prelude.{Option, Some}
-use Rattle.float.specs.Helpers.{lesser}
+use Rattle.float.specs.Helpers.{decimal, lesser}
 use Rattle.state.specs.State as state
 use Rattle.rules.specs.Checks.{quad_passes}
-use Rattle.rules.specs.Closing.{turned_quad, least_of, first_half, second_half, best_split}
+use Rattle.rules.specs.Closing.{area_of, turned_quad, close_four, least_of, first_half, second_half, best_split}
 use Rattle.closing_search.specs.declared.quads.Quad.{Quad}
 use Rattle.closing_search.specs.declared.front.Split.{Split}
 use Rattle.closing_search.specs.Closures.{quad_of, split_of}
+
+-- the side of a choice that was taken
+pub first_taken : {A : Type 0} (t : Bool) (x a b : A) → x ≡ cond t a b → t ≡ true → a ≡ x
+first_taken t x a b e h = sym (e ∙ rw h)
+
+pub second_taken : {A : Type 0} (t : Bool) (x a b : A) → x ≡ cond t a b → t ≡ false → b ≡ x
+second_taken t x a b e h = sym (e ∙ rw h)
+
+-- a quad turned or not, by the sign of its area x
+module _ (pts : List Float) (a b c d : ℕ) (x : Float) (area : x ≡ area_of pts (state.quad a b c d)) where
+  pub turned_round : lt x (decimal 0 0) ≡ true → state.quad d c b a ≡ turned_quad pts (state.quad a b c d)
+  unfolding turned_quad
+  turned_round h = rw (← area, h)
+
+  pub unturned : lt x (decimal 0 0) ≡ false → state.quad a b c d ≡ turned_quad pts (state.quad a b c d)
+  unfolding turned_quad
+  unturned h = rw (← area, h)
+
+-- four nodes
+module _ (limit : Float) (pts : List Float) (f : List ℕ) (q : Quad ℕ) (turned : quad_of q ≡ turned_quad pts (state.quad (get_or f 0 0) (get_or f 1 0) (get_or f 2 0) (get_or f 3 0))) (t : Bool) (tested : t ≡ quad_passes limit pts (quad_of q)) where
+  pub four_closed : t ≡ true → quad_of q ∷ [] ≡ close_four limit pts f
+  unfolding close_four
+  four_closed h = rw (← turned, ← tested, h)
+
+  pub four_kept : t ≡ false → [] ≡ close_four limit pts f
+  unfolding close_four
+  four_kept h = rw (← turned, ← tested, h)
 
 -- six nodes
 module _ (limit : Float) (pts : List Float) (f : List ℕ) (i : ℕ) (small : i < 3) (best : Option Split) (before : split_of best ≡ best_split limit pts f i) (p q : Quad ℕ)

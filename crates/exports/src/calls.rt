@@ -11,7 +11,7 @@ ghost use Rattle.exports_counts.specs.Calls.{job_passed, options_of, passed};
 
 use exports_counts::{no_counts, options_of, put_answer};
 use input::Job;
-use state::Lent;
+use state::{Lent, numbered};
 
 // The sampled loops as fronts, or zeros in every buffer, whatever the buffers held.
 #[unsafe(no_mangle)]
@@ -63,7 +63,7 @@ pub extern "C" fn pave_sample(
         options,
     };
     let answer = sampling::sample(&job, &mut lent);
-    put_answer(counts, no_counts(), answer)
+    put_answer(counts, no_counts(), numbered(answer))
 }
 
 // The whole job: sampling, passes of rows, closings; or zeros in every buffer, whatever the buffers held.
@@ -116,5 +116,5 @@ pub extern "C" fn pave_job(
         options,
     };
     let answer = job::job(&job, &mut lent);
-    put_answer(counts, no_counts(), answer)
+    put_answer(counts, no_counts(), numbered(answer))
 }

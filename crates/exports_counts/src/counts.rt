@@ -2,10 +2,10 @@
 ghost use Rattle.std.specs.Prelude.{◌≡◌};
 ghost use Rattle.state.specs.State.{no_counts};
 ghost use Rattle.state.specs.Call.{answer_counts, answer_number};
-ghost use Rattle.state.specs.Refusals.{answered};
+ghost use Rattle.state.specs.Refusals.{told};
 ghost use Rattle.exports_counts.specs.Calls.{count_list, counts_from};
 
-use state::{Counts, Refusal};
+use state::Counts;
 
 pub fn counts_of(counts: &[u64; 8]) -> Counts
     ensures { result ≡ counts_from counts.now }
@@ -49,18 +49,18 @@ fn put_counts(counts: &mut [u64; 8], after: Counts)
     ];
 }
 
-// The counts after an answer, `before` where it is a refusal, and its number.
-pub fn put_answer(counts: &mut [u64; 8], before: Counts, answer: Result<Counts, Refusal>) -> u32
-    ensures { (result ≡ answer_number (answered answer)) × (counts.new ≡ count_list (answer_counts before (answered answer))) }
+// The counts after an answer, `before` where it is a refusal, and its number, which may be any.
+pub fn put_answer(counts: &mut [u64; 8], before: Counts, answer: Result<Counts, u32>) -> u32
+    ensures { (result ≡ answer_number (told answer)) × (counts.new ≡ count_list (answer_counts before (told answer))) }
 {
     match answer {
         Ok(after) => {
             put_counts(counts, after);
             0
         }
-        Err(refusal) => {
+        Err(number) => {
             put_counts(counts, before);
-            refusal.number()
+            number
         }
     }
 }

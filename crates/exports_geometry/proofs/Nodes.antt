@@ -1,5 +1,5 @@
 -- The tests of every node number.
-use mathlib.Core.Path.{◌≡◌, refl, sym, ◌∙◌}
+use mathlib.Core.Path.{◌≡◌, refl, sym, ap, ◌∙◌}
 use mathlib.Core.Bool.{Bool, true, false, ◌&&◌, true≢false}
 use mathlib.Core.List.{List, [], ◌∷◌}
 use Prim.Native.Nat.{ℕ, zero, suc, ◌+◌, ◌*◌, ◌/◌, ◌≤◌, ◌<◌}
@@ -11,8 +11,25 @@ use lib.Seq.{drop-cons}
 use Rattle.std.proofs.Common.{IsTrue, EachIndex, ◌↔◌, suc-le-suc}
 use lib.Dec.{ltb}
 use lib.Ieee.{Float}
-use borrow.Author.Tests.{lt-ltb, ltb-true}
+use borrow.Author.Tests.{lt-ltb, le-ltb, ltb-true}
 use Rattle.exports_geometry.specs.Fronts.{all_below, nodes_fit}
+
+module _ (n : ℕ) (numbers : List ℕ) (i : ℕ) (some : i < length numbers) (t : Bool) where
+  one_less : drop i numbers ≡ get_or numbers i 0 ∷ drop (i + 1) numbers
+  one_less = rw add-one (drop-cons numbers i 0 some)
+
+  pub one_failed : t ≡ all_below n (drop i numbers) → n ≤ get_or numbers i 0 → false ≡ t
+  unfolding all_below
+  one_failed e h = sym (e ∙ ap (all_below n) one_less ∙ rw (le-ltb (get_or numbers i 0) n h))
+
+  pub one_passed : t ≡ all_below n (drop i numbers) → get_or numbers i 0 < n → t ≡ all_below n (drop (i + 1) numbers)
+  unfolding all_below
+  one_passed e h = e ∙ ap (all_below n) one_less ∙ rw (lt-ltb (get_or numbers i 0) n h)
+
+module _ (n : ℕ) (numbers : List ℕ) (i : ℕ) (none : length numbers ≤ i) (t : Bool) where
+  pub all_passed : t ≡ all_below n (drop i numbers) → true ≡ t
+  unfolding all_below
+  all_passed e = sym (e ∙ rw (drop_of_length-le numbers none))
 
 module _ (n : ℕ) (numbers : List ℕ) (i : ℕ) (t below : Bool) (e : t ≡ (below && all_below n (drop i numbers))) where
   pub one_tested : i < length numbers → t ≡ ((below && ltb (get_or numbers i 0) n) && all_below n (drop (i + 1) numbers))

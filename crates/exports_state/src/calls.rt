@@ -10,7 +10,7 @@ ghost use Rattle.exports_counts.specs.Calls.{options_of, passed, state_passed};
 
 use exports_counts::{counts_of, options_of, put_answer};
 use input::Job;
-use state::Lent;
+use state::{Lent, numbered};
 
 // A row laid on front `front` of the state in the buffers, or nothing changed.
 #[unsafe(no_mangle)]
@@ -61,7 +61,7 @@ pub extern "C" fn pave_row(
         front_lengths,
     };
     let answer = row::row(&job, front, &mut lent, before);
-    put_answer(counts, before, answer)
+    put_answer(counts, before, numbered(answer))
 }
 
 // The fronts of four and six nodes of the state in the buffers closed, or nothing changed.
@@ -112,7 +112,7 @@ pub extern "C" fn pave_close(
         front_lengths,
     };
     let answer = closing::close(&job, &mut lent, before);
-    put_answer(counts, before, answer)
+    put_answer(counts, before, numbered(answer))
 }
 
 // The one front of the state in the buffers fanned, or nothing changed.
@@ -163,5 +163,5 @@ pub extern "C" fn pave_fan(
         front_lengths,
     };
     let answer = fan::fan(&job, &mut lent, before);
-    put_answer(counts, before, answer)
+    put_answer(counts, before, numbered(answer))
 }

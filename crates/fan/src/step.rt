@@ -1,5 +1,5 @@
 // The fan on lent buffers: the Rust's `fan_fill`.
-ghost use Rattle.std.specs.Prelude.{◌≡◌, [], true, ◌≤◌, get_or};
+ghost use Rattle.std.specs.Prelude.{◌≡◌, [], true, ◌≤◌, Float, get_or};
 ghost use Rattle.geometry.specs.Domain.{rings};
 ghost use Rattle.geometry.specs.Rings.{node_ring};
 ghost use Rattle.state.specs.Outcome.{outcome};
@@ -8,7 +8,8 @@ ghost use Rattle.state.specs.Call.{left, state_left};
 ghost use Rattle.state.specs.Lent.{Same, held_in};
 ghost use Rattle.state.specs.Refusals.{answered};
 ghost use Rattle.state.specs.Sound.{Clean, Sound};
-ghost use Rattle.input.specs.Job.{accepted_of};
+ghost use Rattle.input.specs.declared.Options.{Options};
+ghost use Rattle.input.specs.Job as inputs;
 ghost use Rattle.rules.specs.Fan.{centre, fan};
 ghost use Rattle.fan_search.specs.Numbers.{fan_number};
 
@@ -38,8 +39,9 @@ fn fan_one(job: &Accepted, lent: &mut Lent, counts: Counts, clean: bool) -> Resu
     requires one { counts.fronts ≡ 1 }
     requires core_quads_bound { counts.core_quads ≤ counts.quads }
     ensures same { Same lent.old lent.new }
-    ensures left { left (answered result) (held_in lent.new counts)
-        ≡ state_left (held_in lent.old counts) (fan job.now.options.corner_limit (accepted_of job.now) (reading (held_in lent.old counts))) }
+    ensures left { (h : Float) (options : Options) → left (answered result) (held_in lent.new counts)
+        ≡ state_left (held_in lent.old counts)
+        (fan job.now.options.corner_limit (inputs.job job.now.outline.coords.now job.now.outline.loop_lengths.now h options) (reading (held_in lent.old counts))) }
 {
     let centre = try_on(job, lent, counts)?;
     lent.clear_behind(clean, counts);
@@ -48,8 +50,9 @@ fn fan_one(job: &Accepted, lent: &mut Lent, counts: Counts, clean: bool) -> Resu
 }
 
 // A fan on a state whose buffers are sound; buffers that are `clean` are clean again after it. With no front it adds nothing. It tests
-// nothing of the state but the fan. A refused fan must leave the buffers, so zeros may be written only after the trial; `clean` says
-// whether there are any to write, and two functions would differ in that one call.
+// nothing of the state but the fan. Of the job it takes the outline and the corner limit: the size and the other options may be any. A
+// refused fan must leave the buffers, so zeros may be written only after the trial; `clean` says whether there are any to write, and two
+// functions would differ in that one call.
 pub fn fan_fill(
     job: &Accepted,
     lent: &mut Lent,
@@ -60,8 +63,9 @@ pub fn fan_fill(
     requires clean { clean ≡ true → Clean (held_in lent.old counts) }
     requires core_quads_bound { counts.core_quads ≤ counts.quads }
     ensures same { Same lent.old lent.new }
-    ensures left { left (answered result) (held_in lent.new counts)
-        ≡ state_left (held_in lent.old counts) (fan job.now.options.corner_limit (accepted_of job.now) (reading (held_in lent.old counts))) }
+    ensures left { (h : Float) (options : Options) → left (answered result) (held_in lent.new counts)
+        ≡ state_left (held_in lent.old counts)
+        (fan job.now.options.corner_limit (inputs.job job.now.outline.coords.now job.now.outline.loop_lengths.now h options) (reading (held_in lent.old counts))) }
 {
     match counts.fronts {
         0 => {

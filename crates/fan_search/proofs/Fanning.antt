@@ -98,6 +98,10 @@ quad_at pts f c (suc m) i d l =
     (λ g. get_or-append (fan_quads pts f c m) _ d i (rw (fan-length pts f c m) g) ∙ quad_at pts f c m i d g)
     (eq-or-lt_of_le (le_of_suc-le-suc l))
 
+pub passes_at : (limit : Float) (pts : List Float) (f : List ℕ) (c m i : ℕ) {r b : Bool} → i < m → r ≡ quad_passes limit pts (turned_quad pts (plain_quad f c i)) → r ≡ b
+    → quad_passes limit pts (get_or (fan_quads pts f c m) i (quad 0 0 0 0)) ≡ b
+passes_at limit pts f c m i l e g = rw (quad_at pts f c m i (quad 0 0 0 0) l, ← e) g
+
 -- ---- a test at each place of a range
 
 all_more : (p : ℕ → Bool) (a n : ℕ) → list_all p (range_with_len a (suc n)) ≡ (list_all p (range_with_len a n) && p (a + n))

@@ -1,8 +1,13 @@
 -- The literals of the code that the crates below have no law for, by their bits. One law for each.
 use mathlib.Core.Path.{◌≡◌, refl}
 use mathlib.Core.Bool.{true, false}
-use lib.Ieee.{inf, binary64, of_bits, of_int, round}
+use lib.Ieee.{inf, binary64, div, neg, of_bits, of_int, round}
 use lib.IntN.{pos}
+
+-- -1.0 / 0.0
+pub minus_infinity_is : div binary64 (neg (of_bits binary64 0x3FF0_0000_0000_0000)) (of_bits binary64 0) ≡ inf true
+unfolding div neg of_bits
+minus_infinity_is = refl
 
 -- 12.0
 pub twelve_is : of_bits binary64 0x4028_0000_0000_0000 ≡ of_int binary64 (pos 12)

@@ -1,7 +1,7 @@
 -- A number and a finite limit: its size is tested by the limit on either side.
-use Rattle.std.proofs.Common.{◌≡◌, ℕ, zero, suc, ◌+◌, ◌*◌, ◌<◌, ◌≤◌, Bool, true, false, not, ◌&&◌, ◌||◌, eqb, ltb, ℤ, sym, refl, ◌∙◌, subst, true≢false, arith, ltb-false, ltb-true, le-ltb, lt-ltb, eq-eqb, ne_eqb}
-use lib.Ieee.{Float, nan, inf, fin, up, down, below, level, lt, le, eq, neg}
-use Rattle.float.specs.Helpers.{absolute, is_finite}
+use Rattle.std.proofs.Common.{◌≡◌, ℕ, zero, suc, ◌+◌, ◌*◌, ◌<◌, ◌≤◌, Bool, true, false, not, ◌&&◌, ◌||◌, eqb, ltb, ℤ, pos, sym, refl, ◌∙◌, subst, true≢false, arith, ltb-false, ltb-true, le-ltb, lt-ltb, eq-eqb, ne_eqb}
+use lib.Ieee.{Float, nan, inf, fin, up, down, below, level, lt, le, eq, neg, is_nan, round}
+use Rattle.float.specs.Helpers.{decimal, absolute, greater, is_finite}
 
 -- what holds of a < b, b < a, a = b, b = a, 0 < a + b, 0 < b + a, a = 0 and b = 0 in each of four cases holds of them
 each : (P : Bool → Bool → Bool → Bool → Bool → Bool → Bool → Bool → Type 0) → ((x y : Bool) → P true false false false true true x y)
@@ -73,6 +73,25 @@ module _ (n : ℕ) (d : ℤ) where
   within (inf true) = refl
   within (inf false) = refl
   within (fin s m e) = under_size s (m * up e * down d) (n * up d * down e)
+
+  under : (s : Bool) (a b : ℕ) → below s a false b ≡ not (below false b s a || level false b s a)
+  under false = each (λ l m e e' p p' z z'. l ≡ not (m || e' && (true || z'))) (λ x y. refl) (λ x y. refl) refl refl
+  under true = each (λ l m e e' p p' z z'. p ≡ not (false || e' && (false || z'))) (λ x y. refl) (λ x y. refl) refl refl
+
+  pub not_above : (x : Float) → (is_nan x || lt x limit) ≡ not (le limit x)
+  unfolding is_nan lt eq le
+  not_above nan = refl
+  not_above (inf true) = refl
+  not_above (inf false) = refl
+  not_above (fin s m e) = under s (m * up e * down d) (n * up d * down e)
+
+pub greater_is : (z x : Float) → z ≡ decimal 0 0 → le z x ≡ true → x ≡ greater x (decimal 0 0)
+unfolding greater round
+greater_is z x e h = rw (not_above 0 (pos 0) x, rw e at h)
+
+pub zero_greater : (z x : Float) → z ≡ decimal 0 0 → le z x ≡ false → z ≡ greater x (decimal 0 0)
+unfolding greater round
+zero_greater z x e h = e ∙ rw (not_above 0 (pos 0) x, rw e at h)
 
 -- ---- any limit
 -- no size is below a negative limit, and no number between it and its opposite

@@ -1,7 +1,7 @@
--- The least of some roots is the root of the least (`root-lesser`), so one root does. Sums of squares meet what that asks: they are NaNs or have a clear sign (`clear-square`, `clear-sum`).
+-- The least of some roots is the root of the least (`root-lesser`), so one root does. Sums of squares meet what that asks: they are NaNs or have a clear sign (`clear-square`, `clear-sum`, `clear-lesser`).
 use Rattle.std.proofs.Common.{◌≡◌, ℕ, zero, suc, ◌+◌, ◌*◌, ◌^◌, ◌<◌, ◌≤◌, Bool, true, false, cond, not, ◌&&◌, ◌||◌, T, eqb, ltb, ◌⊎◌, pos, sym, refl, ap, ◌∙◌, subst, inl, inr, zero-lt-suc, eq-or-lt_of_le, mul-pos, arith, eqb→eq, lt→ltb, ltb-false}
 use lib.Ieee.{Float, nan, inf, fin, binary64, Format, prec, emax, low, up, down, odd, units, round, sum, add, mul, fits, is_nan, lt, eq, le}
-use lib.Ieee.Fits.{eq→eqb, and_l, up_pos, down_pos, round_is}
+use lib.Ieee.Fits.{eq→eqb, and_l, up_pos, down_pos, round_is, cond-fits}
 use Rattle.float.specs.Helpers.{decimal, lesser}
 use Rattle.float.specs.Root.{root}
 use Rattle.float.proofs.Signs.{clash, yes, fits_zero}
@@ -140,6 +140,14 @@ root-lesser a b F G c d =
       | inr n ↦ number_lesser a b F G c d n
     ]
 
+-- of two roots in order, the squares are
+pub root_reflects : (x y : Float) → T (fits binary64 x) → T (fits binary64 y) → T (clear x) → T (clear y) → T (not (is_nan x)) → T (not (is_nan y)) → T (lt (root x) (root y)) → T (lt x y)
+root_reflects x y F G c d n m h = go (lt x y) refl
+  where
+    go : (t : Bool) → lt x y ≡ t → T t
+    go true e = tt
+    go false e = not_both (root x) (root y) (is_true (lt (root x) (root y)) h) (root_monotone y x G F (not_negative y d m) (total y x d c m n e))
+
 -- ---- what has a clear sign
 clear_odd : (k q i j : ℕ) → T (clear (odd k false q i j))
 unfolding odd
@@ -179,3 +187,15 @@ clear-sum (fin false m e) (inf true) c d = absurd d
 clear-sum (fin false m e) (inf false) c d = tt
 clear-sum (fin false m e) (fin true n f) c d = absurd d
 clear-sum (fin false m e) (fin false n f) c d = clear-round binary64 (m * up e * down f + n * up f * down e) (down e * down f)
+
+pub clear-lesser : (a b : Float) → T (clear a) → T (clear b) → T (clear (lesser a b))
+unfolding lesser
+clear-lesser a b c d = go (is_nan a || lt b a)
+  where
+    go : (t : Bool) → T (clear (cond t b a))
+    go true = d
+    go false = c
+
+pub lesser_fits : (a b : Float) → T (fits binary64 a) → T (fits binary64 b) → T (fits binary64 (lesser a b))
+unfolding lesser
+lesser_fits a b F G = cond-fits binary64 (is_nan a || lt b a) b a G F

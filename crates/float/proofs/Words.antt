@@ -1,6 +1,15 @@
 -- The square of a number g of 53 digits by its words h and l of 21 and 32, modulo 2 ^ 64: what the test of `is_nearest` tells.
-use Rattle.std.proofs.Common.{◌≡◌, ℕ, ◌+◌, ◌-◌, ◌*◌, ◌/◌, ◌%◌, ◌^◌, ◌<◌, ◌≤◌, sym, refl, ap, ◌∙◌, subst, inl, inr, mul-le-mul_right, eq-or-lt_of_le, arith}
+use Rattle.std.proofs.Common.{◌≡◌, ℕ, ◌+◌, ◌-◌, ◌*◌, ◌/◌, ◌%◌, ◌^◌, ◌<◌, ◌≤◌, sym, refl, ap, ◌∙◌, subst, inl, inr, mul-le-mul_right, mul-le-mul, eq-or-lt_of_le, arith}
 use Rattle.float.proofs.Patterns.{here_or_on}
+
+pub low_low : (g : ℕ) → g % 4294967296 * (g % 4294967296) ≤ 18446744065119617025
+low_low g = let l : g % 4294967296 ≤ 4294967295 = omega arith in mul-le-mul l l
+
+pub high_low : (g : ℕ) → g < 2 ^ 53 → g / 4294967296 * (g % 4294967296) ≤ 9007199254740992
+high_low g h =
+    let k : g / 4294967296 ≤ 2097152 = omega arith in
+    let l : g % 4294967296 ≤ 4294967296 = omega arith in
+    mul-le-mul k l
 
 squared : (h l : ℕ) → (h * 4294967296 + l) * (h * 4294967296 + l) ≡ h * h * 18446744073709551616 + h * l * 8589934592 + l * l
 squared h l = omega arith

@@ -29,7 +29,8 @@ impl Frame {
     }
 }
 
-fn margin_of(b: Box, h: f64) -> f64
+// The margin around a box.
+pub fn margin_of(b: Box, h: f64) -> f64
     ensures { result ≡ margin (boxed b) h }
 {
     0.05 * float::greater(b.right - b.left, b.high - b.low) + h

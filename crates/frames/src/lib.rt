@@ -4,5 +4,5 @@
 mod boxes;
 mod heads;
 
-pub use boxes::Frame;
+pub use boxes::{Frame, margin_of};
 pub use heads::{put_caption, put_closing, put_head, put_plain_caption, put_plain_head};

@@ -27,6 +27,11 @@ pub no_rings : (coords : List Float) (loops : List ℕ) → loops ≡ [] → rin
 unfolding rings
 no_rings coords loops h = ap (rings coords) h
 
+pub no_loops : (coords : List Float) (loops : List ℕ) → length loops ≡ 0 → rings coords loops ≡ []
+unfolding rings
+no_loops coords [] h = refl
+no_loops coords (n ∷ ns) h = absurd (omega arith)
+
 -- the loops from the ith on: the ith and those behind it, or none
 pub loops_from : (loops : List ℕ) (i n : ℕ) → i < length loops → n ≡ get_or loops i 0 → drop i loops ≡ n ∷ drop (i + 1) loops
 loops_from loops i n h e = drop_more loops i 0 h ∙ ap (λ (m : ℕ). m ∷ drop (i + 1) loops) (sym e)

@@ -58,13 +58,24 @@ closed b (refused m) (gives d) x c k = never (ap (λ (y : Left). y.answer) k)
 closed b (gives s) (refused n) x c k = never (sym (ap (λ (y : Left). y.answer) k))
 closed b (gives s) (gives d) x c k = ap gives (ap (λ (y : Left). y.held) k)
 
+-- what they answer says what they made of the state
+pub state_refused : (b : Held) (o : Outcome State) (n : ℕ) (x : Held) → left (refused n) x ≡ state_left b o → o ≡ refused n
+unfolding state_left
+state_refused b (refused m) n x k = let q : ◌≡◌ {A = Outcome Counts} (refused n) (refused m) = ap (λ (y : Left). y.answer) k in ap refused (sym (refused_same q))
+state_refused b (gives s) n x k = never (sym (ap (λ (y : Left). y.answer) k))
+
+pub state_done : (b : Held) (o : Outcome State) (l : Lengths) (c : Counts) (x : Held) → left (gives c) x ≡ state_left b o → left (gives c) x ≡ job_left l o
+unfolding state_left job_left
+state_done b (refused m) l c x k = never (ap (λ (y : Left). y.answer) k)
+state_done b (gives s) l c x k = k
+
 -- ---- the passes, and what follows
 
-refused_first : (o : Outcome State) (step : State → Outcome State) (n : ℕ) → o ≡ refused n → and_then o step ≡ refused n
+pub refused_first : (o : Outcome State) (step : State → Outcome State) (n : ℕ) → o ≡ refused n → and_then o step ≡ refused n
 unfolding and_then
 refused_first o step n e = rw e refl
 
-given_first : (o : Outcome State) (step : State → Outcome State) (s : State) → o ≡ gives s → step s ≡ and_then o step
+pub given_first : (o : Outcome State) (step : State → Outcome State) (s : State) → o ≡ gives s → step s ≡ and_then o step
 unfolding and_then
 given_first o step s e = rw e refl
 
@@ -125,6 +136,10 @@ module _ (j : Job) (l : Lengths) where
       go (refused m) q k = let a : ◌≡◌ {A = Outcome Counts} (refused n) (refused m) = ap (λ (y : Left). y.answer) k in rw (← input, q, refused_same a)
       go (gives s) q k = never (sym (ap (λ (y : Left). y.answer) k))
 
+  pub loops_refused : (n : ℕ) → 0 ≡ input_number j l → sampled j ≡ refused n → refused n ≡ made
+  unfolding paved and_then
+  loops_refused n input e = rw (← input, e)
+
   -- a job that was sampled, and b is what is held then
   pub record Started (b : Held) : Type 0 where
     pub input : input_number j l ≡ 0
@@ -168,7 +183,7 @@ module _ (j : Job) (l : Lengths) where
     rows = some_passes j j.options.max_row_rounds (reading b)
 
     -- the job from here on
-    onward : made ≡ and_then rows (closings j.options.corner_limit)
+    pub onward : made ≡ and_then rows (closings j.options.corner_limit)
     unfolding paved and_then
     onward = rw (start.input, start.sampled_is, read-start)
 

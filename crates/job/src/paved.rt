@@ -11,10 +11,10 @@ ghost use Rattle.passes.specs.Passed.{passed, written_of};
 use closing::close_small_fronts;
 use input::Job;
 use passes::some_passes;
-use sampling::sample_accepted;
+use sampling::put_loops;
 use state::{Counts, Lent, Refusal};
 
-// What `sample_accepted` leaves is written and clean, and so is what each step leaves, so no place is cleared between the steps. A
+// What `put_loops` leaves is written and clean, and so is what each step leaves, so no place is cleared between the steps. A
 // refusal says nothing of the buffers: they may hold a part of the job, and `job` clears them.
 pub fn pave(job: &Job, lent: &mut Lent) -> Result<Counts, Refusal>
     ensures same { Same lent.old lent.new }
@@ -22,7 +22,7 @@ pub fn pave(job: &Job, lent: &mut Lent) -> Result<Counts, Refusal>
         passed (answered result) (held_in lent.new no_counts) ≡ written_of (cond (eqb input 0) (paved (job_of job.now)) (refused input)) }
 {
     let accepted = job.check(lent)?;
-    let start = sample_accepted(&accepted, lent)?;
+    let start = put_loops(&accepted, lent)?;
     let laid = some_passes(&accepted, accepted.options.max_row_rounds, lent, start)?;
     close_small_fronts(lent, laid, accepted.options.corner_limit, true)
 }

@@ -10,8 +10,8 @@ use native.Mathlib.Omega.{arith}
 use borrow.Author.Tests.{eqb-true, eqb-false, eq-eqb, ne_eqb}
 use lib.Dec.{eqb}
 use lib.Ieee.{Float}
-use lib.ListN.{length, drop, set, length-append, length-drop}
-use lib.Seq.{sets}
+use lib.ListN.{length, drop, set, length-append, length-drop, length-set}
+use lib.Seq.{sets, set_out}
 use Rattle.state.specs.State.{joined}
 use Rattle.state.proofs.Stores.{sets-append}
 use Rattle.state.proofs.Growing.{joined-append}
@@ -131,3 +131,8 @@ loops_step t at c l h coords lengths r i e =
     let n = i.count in
     let z : 0 + length o.value ≡ r.value = omega arith in
     storing-behind (stored c l 0 0) o (read_holes (suc (length o.rest)) o.rest) ∙ rw (z, i.stored, e, n, p.2)
+
+-- ---- a point beyond the buffer's end is not stored
+
+pub point_out : {A : Type 0} (l : List A) (i : ℕ) (x y : A) → length l ≤ i * 2 → sets l (i * 2) (x ∷ y ∷ []) ≡ l
+point_out l i x y h = set_out (set l (i * 2) x) (suc (i * 2)) y (rw length-set (omega arith)) ∙ set_out l (i * 2) x h

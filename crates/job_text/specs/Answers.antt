@@ -1,12 +1,14 @@
--- What the code answers, by the definitions of `Reading`. A caller needs `job_answer`; the others are for the code's own contracts. Definitions only.
+-- What the code answers, by the definitions of `Reading`. A caller needs `job_answer` and `no_job`; the others are for the code's own contracts. Definitions only.
 use Rattle.std.specs.Prelude as rust
-use Rattle.std.specs.Prelude.{ℕ, suc, ◌+◌, ◌-◌, ◌*◌, ◌≡◌, Bool, false, cond, ◌||◌, List, ◌∷◌, map, ltb, Float, ℤ, pos, length, take, drop, Some, None, Result, Ok, Err}
+use Rattle.std.specs.Prelude.{ℕ, suc, ◌+◌, ◌-◌, ◌*◌, ◌≡◌, Bool, false, cond, ◌||◌, List, [], ◌∷◌, map, ltb, Float, ℤ, pos, length, take, drop, Some, None, Result, Ok, Err}
 use Rattle.std.proofs.Math.Option.{Option, none, some}
 use Rattle.std.specs.Float.{binary64}
 use Rattle.std.specs.Float.Ieee.{of_int}
 use Rattle.std.proofs.lemmas.List.Edits.{sets}
 use Rattle.state.specs.State.{joined}
-use Rattle.input.specs.Job.{Job, loop_limit, pair_limit}
+use Rattle.float.specs.Helpers.{decimal}
+use Rattle.input.specs.Defaults.{defaults}
+use Rattle.input.specs.Job.{Job, job, loop_limit, pair_limit}
 use Rattle.job_text.specs.Drawing.{Place, Drawing, coordinates, loops, job_of}
 use Rattle.job_text.specs.Reading.{Read, read, and_then, read_loop, read_holes, read_job}
 use Rattle.geometry.specs.declared.Point.{Point}
@@ -40,6 +42,10 @@ answer_of (some d) = cond (too_many d) (Err TooMany) (Ok (drawing_read d))
 unfoldable pub job_answer : Option Drawing → Result Job TextError
 job_answer none = Err Unreadable
 job_answer (some d) = cond (too_many d) (Err TooMany) (Ok (job_of d))
+
+-- before a text is read, and after one that gives no job
+abbrev pub no_job : Job
+no_job = job [] [] (decimal 0 0) defaults
 
 -- the buffers begin with the job's coordinates and its loop lengths
 pub record Holds (d : Drawing) (c : List Float) (l : List ℕ) : Type 0 where

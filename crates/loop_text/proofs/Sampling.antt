@@ -28,11 +28,11 @@ use Rattle.loop_text.specs.SampledText.{loop_lines, sampled_text}
 -- ---- the text by what was read
 
 -- a job that the input refuses with 1
-refused_1 : (j : Job) → input_number j lent ≡ 1 → loop_lines (sample_call j lent) ≡ refused_text 1
+pub refused_1 : (j : Job) → input_number j lent ≡ 1 → loop_lines (sample_call j lent) ≡ refused_text 1
 unfolding loop_lines sample_call on_job job_left
 refused_1 j h = rw h
 
-read_none : (t : List ℕ) → read_job t ≡ none → refused_text 11 ≡ sampled_text t
+pub read_none : (t : List ℕ) → read_job t ≡ none → refused_text 11 ≡ sampled_text t
 unfolding sampled_text Option-elim
 read_none t e = rw e
 

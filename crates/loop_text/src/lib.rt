@@ -17,7 +17,7 @@ ghost use Rattle.loop_text.specs.SampledText.{loop_lines, sampled_text};
 use answer_text::{put_refused, put_rings};
 use input::Job;
 use job_text::TextJob;
-use state::Arrays;
+use state::Lent;
 use text::Writer;
 
 // A line for each loop, of two slices: of a slice the check knows that its numbers fit, of a field it does not.
@@ -37,8 +37,17 @@ fn put_sampled(w: &mut Writer, job: &Job)
     ensures upper_bound { w.new.at ≤ w.old.at + text_limit }
     ensures same { Same w.old w.new }
 {
-    let mut arrays = Arrays::zeros();
-    let mut lent = arrays.lend();
+    // Apart, and not as `Arrays`: nothing here reads the quads, and so the compiler leaves them out.
+    let mut points = [0.0; 8192];
+    let mut quads = [0; 16384];
+    let mut front_nodes = [0; 2048];
+    let mut front_lengths = [0; 16];
+    let mut lent = Lent {
+        points: &mut points,
+        quads: &mut quads,
+        front_nodes: &mut front_nodes,
+        front_lengths: &mut front_lengths,
+    };
     match sampling::sample(job, &mut lent) {
         Ok(counts) => {
             let loops = lent.fronts(counts);
@@ -54,8 +63,9 @@ fn put_text(w: &mut Writer, input: &[u8])
     ensures upper_bound { w.new.at ≤ w.old.at + text_limit }
     ensures same { Same w.old w.new }
 {
-    match TextJob::read(input) {
-        Ok(read) => put_sampled(w, &read.job()),
+    let mut read = TextJob::none();
+    match read.read(input) {
+        Ok(()) => put_sampled(w, &read.job()),
         Err(error) => put_refused(w, error.number()),
     }
 }

@@ -9,7 +9,8 @@ use borrow.Author.Tests.{eq-eqb, ne_eqb}
 use lib.ListN.{length, get_or, set, replicate}
 use lib.Seq.{get_or-set_same, get_or-set_other}
 use Rattle.state.specs.Limits.{point_limit}
-use Rattle.pair_counts.specs.Chains.{highs_at, chain, Linked}
+use Rattle.pair_counts.specs.Sides.{side_limit}
+use Rattle.pair_counts.specs.Chains.{highs_at, chain, Linked, Walk}
 use Rattle.pair_counts.specs.Twice.{every}
 use Rattle.pair_counts.specs.Tally.{each_twice, sides_twice}
 use Rattle.pair_counts.proofs.Every.{every_same}
@@ -80,6 +81,17 @@ module _ (lows behind first : List ℕ) (i x : ℕ) (linked : Linked lows behind
 
   pub link_step : Linked lows behind' first' (i + 1)
   link_step = record { within = within'; falls = falls'; chains = chains' }
+
+-- what going along the chains of all sides needs
+pub linked_walk : (lows highs behind first : List ℕ) (u : ℕ) → Linked lows behind first (length lows) → length highs ≡ length lows → length lows ≤ side_limit → length lows ≤ length behind
+    → ((i : ℕ) → i < length lows → get_or highs i 0 < point_limit) → u < point_limit → Walk highs behind (get_or first u 0)
+linked_walk lows highs behind first u linked e few long small l = record {
+  within = omega (arith, linked.within u l);
+  few = omega arith;
+  long = omega arith;
+  falls = λ p h. linked.falls p (omega arith);
+  nodes = λ p h. small p (omega arith);
+}
 
 -- and the test of each chain is the test of the sides
 pub linked_twice : (lows highs behind first : List ℕ) → Linked lows behind first (length lows) → every (λ u. each_twice (chain behind highs (get_or first u 0))) point_limit ≡ sides_twice lows highs

@@ -103,6 +103,17 @@ chain_done highs behind at none =
     let z : at ≡ 0 = omega (arith, none) in
     rw z (chain_end behind highs)
 
+-- `at` is not 0, `node` is the higher node there, and `place` the place behind it
+module _ (highs behind : List ℕ) (at node place : ℕ) (walk : Walk highs behind at) (more : at ≡ 0 → ⊥) (node-is : node ≡ get_or highs (at - 1) 0) (place_is : place ≡ get_or behind (at - 1) 0) where
+  pub turn_small : node < point_limit
+  turn_small = let w = walk.within in omega (arith, walk.nodes (at - 1) (omega arith))
+
+  pub turn_falls : place < at
+  turn_falls = let w = walk.within in omega (arith, walk.falls (at - 1) (omega arith))
+
+  pub turn_on : Walk highs behind place
+  turn_on = let f = turn_falls in let w = walk.within in record { within = omega arith; few = walk.few; long = walk.long; falls = walk.falls; nodes = walk.nodes }
+
 module _ (highs behind : List ℕ) (at : ℕ) (walk : Walk highs behind at) where
   pub turn-chain : (i : ℕ) → i ≡ at - 1 → 1 ≤ at → chain behind highs at ≡ get_or highs i 0 ∷ chain behind highs (get_or behind i 0)
   turn-chain i e more = rw e (go at walk more)

@@ -1,7 +1,7 @@
 -- Inserting a front into an order: how many fronts an order has, that each is one of them, and what the code's places have of it.
 use mathlib.Core.Path.{◌≡◌, refl, sym, ◌∙◌, ap}
 use mathlib.Core.Bool.{Bool, true, false, cond, not}
-use mathlib.Core.List.{List, [], ◌∷◌, ◌++◌}
+use mathlib.Core.List.{List, [], ◌∷◌, ◌++◌, append_assoc}
 use Prim.Native.Nat.{ℕ, zero, suc, ◌+◌, ◌-◌, ◌<◌, ◌≤◌, suc-le-suc}
 use native.Mathlib.Nat.{not-suc-le-zero, le_of_suc-le-suc, zero-add, suc-add}
 use native.Mathlib.Numerals.{add-one, one-add}
@@ -9,8 +9,8 @@ use native.Mathlib.Omega.{arith}
 use borrow.Author.Tests.{eqb-true, eqb-false, ltb-false}
 use lib.Dec.{eqb, ltb}
 use lib.Ieee.{Float, lt, nan}
-use lib.ListN.{length, get_or, take, drop, set}
-use lib.Seq.{take_at, get_or-set_same, get_or-set_other, length-take-le}
+use lib.ListN.{length, get_or, take, drop, set, take-append-drop}
+use lib.Seq.{take-suc, drop-cons, take_at, get_or_at, set_at, get_or-set_same, get_or-set_other, length-take-le, slice-cons, slice_empty}
 use Rattle.std.proofs.Common.{Option, Some, None}
 use Rattle.std.proofs.lemmas.List.Elements.{All-from_get_or}
 use Rattle.std.specs.List.{All, copy_within, position_or_len}
@@ -120,6 +120,85 @@ moved_up d at i v h l =
     let e : at + 1 + (i - at) ≡ suc i = omega arith in
     let f : i ≡ at + (i - at) = omega arith in
     rw (e, add-one i, add-one at) (rw (← f) at (moved d at (i - at) v (omega arith)))
+
+-- ---- a number put into a list: what stands before and behind it
+
+put_first : (v k i : ℕ) (d : List ℕ) → k ≤ i → take (suc i) (put_in d k v) ≡ take k d ++ v ∷ drop k (take i d)
+put_first v zero i d h = refl
+put_first v (suc k) zero d h = absurd (not-suc-le-zero h)
+put_first v (suc k) (suc i) [] h = refl
+put_first v (suc k) (suc i) (x ∷ d) h = ap (λ t. x ∷ t) (put_first v k i d (le_of_suc-le-suc h))
+
+put_moved : (v at k : ℕ) (d : List ℕ) → at ≤ k → get_or (put_in d at v) (suc k) 0 ≡ get_or d k 0
+put_moved v zero k d h = refl
+put_moved v (suc at) zero d h = absurd (not-suc-le-zero h)
+put_moved v (suc at) (suc k) [] h = refl
+put_moved v (suc at) (suc k) (x ∷ d) h = put_moved v at k d (le_of_suc-le-suc h)
+
+put_length : (v at : ℕ) (d : List ℕ) → length (put_in d at v) ≡ suc (length d)
+put_length v zero d = refl
+put_length v (suc at) [] = refl
+put_length v (suc at) (x ∷ d) = ap suc (put_length v at d)
+
+-- ---- the place: the first k of i places passed
+
+-- what is known before place k is tried
+abbrev pub Passed : (ℕ → Float) → ℕ → List ℕ → ℕ → Type 0
+Passed f i d k = inserted f i (take i d) ≡ take k d ++ inserted f i (drop k (take i d))
+
+module _ (f : ℕ → Float) (i : ℕ) (d : List ℕ) (fits : i < length d) where
+  pub passed_more : (k : ℕ) → k < i → lt (f i) (f (get_or d k 0)) ≡ false → Passed f i d k → Passed f i d (k + 1)
+  unfolding inserted
+  passed_more k h e p =
+      let s = slice-cons k i d 0 h (omega arith) in
+      let t = take-suc d k 0 (omega arith) in
+      rw (add-one, t) (p ∙ ap (λ x. take k d ++ inserted f i x) s ∙ rw (e, append_assoc))
+
+  module _ (k : ℕ) (h : k ≤ i) (p : Passed f i d k) where
+    found : inserted f i (drop k (take i d)) ≡ i ∷ drop k (take i d) → inserted f i (take i d) ≡ take (i + 1) (put_in d k i)
+    found e = p ∙ rw (e, add-one) (sym (put_first i k i d h))
+
+    pub found_before : k < i → lt (f i) (f (get_or d k 0)) ≡ true → inserted f i (take i d) ≡ take (i + 1) (put_in d k i)
+    unfolding inserted
+    found_before l e = found (rw (slice-cons k i d 0 l (omega arith), e))
+
+  pub found_last : Passed f i d i → inserted f i (take i d) ≡ take (i + 1) (put_in d i i)
+  unfolding inserted
+  found_last p = found i (omega arith) p (rw (slice_empty i d))
+
+-- ---- putting in: k places of the new order are written, and the number that stood there is carried
+
+-- the array and the carried number before place k is written
+pub record Carried (d : List ℕ) (at i k : ℕ) (order : List ℕ) (carried : ℕ) : Type 0 where
+  pub places : order ≡ take k (put_in d at i) ++ drop k d
+  pub number : carried ≡ get_or (put_in d at i) k 0
+
+module _ (d : List ℕ) (at i : ℕ) (h : at ≤ i) (fits : i < length d) where
+  pub carried_first : Carried d at i at d i
+  carried_first =
+      let l = length-take-le at d (omega arith) in
+      record {
+        places = sym (ap (λ t. t ++ drop at d) (take_at (take at d) (i ∷ drop at d) at l) ∙ take-append-drop at d);
+        number = sym (get_or_at (take at d) i (drop at d) 0 at l);
+      }
+
+  module _ (k : ℕ) (order : List ℕ) (carried : ℕ) where
+    pub carried_more : at ≤ k → k ≤ i → Carried d at i k order carried → Carried d at i (k + 1) (set order k carried) (get_or order k 0)
+    carried_more a b c =
+        let n = put_length i at d in
+        let l = length-take-le k (put_in d at i) (omega arith) in
+        let e = c.places ∙ ap (λ t. take k (put_in d at i) ++ t) (drop-cons d k 0 (omega arith)) in
+        record {
+          places =
+              ap (λ x. set x k carried) e ∙ set_at (take k (put_in d at i)) (get_or d k 0) (drop (suc k) d) carried k l
+              ∙ rw (add-one, take-suc (put_in d at i) k 0 (omega arith), append_assoc, c.number);
+          number = ap (λ x. get_or x k 0) e ∙ get_or_at (take k (put_in d at i)) (get_or d k 0) (drop (suc k) d) 0 k l ∙ rw add-one (sym (put_moved i at k d a));
+        }
+
+    pub carried_last : k ≡ i + 1 → Carried d at i k order carried → take (i + 1) order ≡ take (i + 1) (put_in d at i)
+    carried_last e c =
+        let n = put_length i at d in
+        rw (c.places, e) (take_at (take (i + 1) (put_in d at i)) (drop (i + 1) d) (i + 1) (length-take-le (i + 1) (put_in d at i) (omega arith)))
 
 -- ---- the order in the first n places of the array
 

@@ -177,7 +177,7 @@ module _ (j : Job) (fronts : ℕ) (order : List ℕ) (b₀ : Held) where
     next-front h = r.rows ∙ ap (λ x. rows_in_order j x (reading b)) (rw add-one (drop-cons order k 0 (omega arith)))
 
     module _ (h : k < fronts) (a : Result Counts Refusal) (l : Held) (e : left (answered a) l ≡ state_left b (next_row j (reading b) (get_or order k 0))) where
-      rowed_more : full (answered a) ≡ false → Rowed j fronts order b₀ (k + 1) (left (answered a) l).held
+      pub rowed_more : full (answered a) ≡ false → Rowed j fronts order b₀ (k + 1) (left (answered a) l).held
       rowed_more n =
           let s = stepped j b (get_or order k 0) r.sound r.clean (answered a) l e n in
           record {

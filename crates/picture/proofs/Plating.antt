@@ -1,5 +1,5 @@
 -- The text that the code puts is that of the definition.
-use mathlib.Core.Path.{◌≡◌}
+use mathlib.Core.Path.{◌≡◌, refl}
 use mathlib.Core.List.{List}
 use Prim.Native.Nat.{ℕ, ◌*◌, ◌≤◌}
 use native.Mathlib.Omega.{arith}
@@ -7,7 +7,7 @@ use lib.Ieee.{Float}
 use lib.ListN.{length, take}
 use Rattle.state.specs.Outcome.{Outcome, refused, gives}
 use Rattle.state.specs.declared.Counts.{Counts}
-use Rattle.state.specs.State.{Held, cut, no_counts, reading}
+use Rattle.state.specs.State.{Held, quads_of, cut, no_counts, reading}
 use Rattle.state.specs.Call.{held, left}
 use Rattle.state.specs.Sound.{Sound, sizes_of}
 use Rattle.input.specs.Job.{Job}
@@ -28,8 +28,14 @@ module _ (b : Box) (m : Float) (j : Job) (e : b ≡ outline_box j.coords) (f : m
   pub outlined_is : (n : ℕ) → framed_text b m (outline_text j.coords j.loops) (refused_caption n) ≡ outlined j n
   outlined_is n = rw (f, e)
 
--- ---- what is read from the buffers, as the code has it
+-- ---- what is read from the buffers
 
+pub reading_is : (p : List Float) (q n l : List ℕ) (c : Counts)
+    → ((reading (held p q n l c)).points ≡ take (c.points * 2) p) × ((reading (held p q n l c)).quads ≡ quads_of c.quads q) × ((reading (held p q n l c)).fronts ≡ cut (take c.fronts l) n)
+unfolding reading
+reading_is p q n l c = (refl, refl, refl)
+
+-- as the code has it
 module _ (b : Box) (m : Float) (coords : List Float) (loops : List ℕ) (x : Held) (sound : Sound x) where
   within : x.counts.quads * 4 ≤ length x.quads
   within = let n = sound.quads in let l = sound.quads_long in omega arith

@@ -37,8 +37,9 @@ fn put_drawing(w: &mut Writer, input: &[u8])
     ensures upper_bound { w.new.at ≤ w.old.at + picture_room }
     ensures same { Same w.old w.new }
 {
-    match TextJob::read(input) {
-        Ok(read) => put_job(w, &read.job()),
+    let mut read = TextJob::none();
+    match read.read(input) {
+        Ok(()) => put_job(w, &read.job()),
         Err(error) => put_words(w, error.number()),
     }
 }

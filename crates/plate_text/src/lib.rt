@@ -13,7 +13,7 @@ ghost use Rattle.plate_text.specs.PaveText.{pave_text, text_call, texted};
 use answer_text::{put_answer, put_refused};
 use input::Job;
 use job_text::TextJob;
-use state::Arrays;
+use state::{Arrays, numbered};
 use text::{Writer, put_zeros};
 
 // The answer of a job, as text.
@@ -26,7 +26,7 @@ fn put_job(w: &mut Writer, job: &Job)
     let mut arrays = Arrays::zeros();
     let mut lent = arrays.lend();
     let answer = job::job(job, &mut lent);
-    put_answer(w, answer, &lent.read());
+    put_answer(w, numbered(answer), &lent.read());
 }
 
 fn put_paved(w: &mut Writer, input: &[u8])
@@ -35,8 +35,9 @@ fn put_paved(w: &mut Writer, input: &[u8])
     ensures upper_bound { w.new.at ≤ w.old.at + text_limit }
     ensures same { Same w.old w.new }
 {
-    match TextJob::read(input) {
-        Ok(read) => put_job(w, &read.job()),
+    let mut read = TextJob::none();
+    match read.read(input) {
+        Ok(()) => put_job(w, &read.job()),
         Err(error) => put_refused(w, error.number()),
     }
 }

@@ -1,5 +1,7 @@
 // The program's words. Each is the name of a file with a job's text, and the job is paved; or that name, a tab and the letters of
 // calls, which are made on a state of the job.
+ghost use Rattle.std.specs.Prelude.{◌≤◌, length};
+
 use calls::run;
 use job_text::TextJob;
 use showing::line;
@@ -8,7 +10,9 @@ use std::rt::{Env, Files};
 use std::{env, fs, io};
 
 // The bytes of a file that 65,536 bytes hold; none, and a line on standard error, where it cannot be opened or read.
-fn read_file<'a>(rt: &(impl Files + Eprint), path: &str, input: &'a mut [u8; 65536]) -> &'a [u8] {
+fn read_file<'a>(rt: &(impl Files + Eprint), path: &str, input: &'a mut [u8; 65536]) -> &'a [u8]
+    ensures { length result.now ≤ 65536 }
+{
     let mut file = match fs::open(rt, path) {
         Ok(file) => file,
         Err(error) => {
@@ -30,10 +34,10 @@ fn pave(rt: &impl Print, text: &[u8]) {
 }
 
 fn call(rt: &impl Print, text: &[u8], letters: &[u8]) {
-    let Ok(read) = TextJob::read(text) else {
-        return;
-    };
-    run(rt, &read.job(), letters);
+    let mut read = TextJob::none();
+    if read.read(text).is_ok() {
+        run(rt, &read.job(), letters);
+    }
 }
 
 fn answer(rt: &(impl Files + Print + Eprint), word: &str) {

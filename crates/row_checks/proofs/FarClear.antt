@@ -87,3 +87,8 @@ module _ (short bound : Float) (row : List Float) (n : ℕ) (a b : Point) where
   pub all_feet : le (square_to a b) short ≡ false → {far : Bool} (i : ℕ) → i ≡ n → far ≡ every (λ k. le bound (foot_square a (toward a b) (square_to a b) (point_at row k))) i
       → far ≡ far_side short bound row n a b
   all_feet h i e g = rw h (g ∙ rw e (every_same (λ k. le bound (foot_square a (toward a b) (square_to a b) (point_at row k))) (λ k. le bound (segment_square short (point_at row k) a b)) (λ k. ap (le bound) (to_foot short (point_at row k) a b _ h refl)) n))
+
+-- a side of a ring, whose ends the code has read, came out as t
+pub one_side : (bound : Float) (row : List Float) (n : ℕ) (r : Ring) (i : ℕ) {short short' : Float} {a b : Point} {j : ℕ} {far t : Bool} → short ≡ short' → a ≡ r.at i → b ≡ r.at j → j ≡ next r.size i
+    → far ≡ far_side short bound row n a b → far ≡ t → far_side short' bound row n (r.at i) (r.at (next r.size i)) ≡ t
+one_side bound row n r i hs ha hb hj h g = rw (← hs, ← ha, ← hj, ← hb, ← h) g

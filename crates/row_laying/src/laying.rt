@@ -55,7 +55,7 @@ fn put_row(
 
 // Writes the new points `row` on front `li`: the row's points and quads behind the others, and the new front in the old one's
 // place; answers the counts after it. Nothing else of the state changes, and the zeros behind it stand. The lengths of the fronts are
-// only read: no crate here calls it, but who has them to read alone can.
+// only read.
 pub fn lay_row(
     points: &mut [f64],
     quads: &mut [u16],
@@ -75,8 +75,7 @@ pub fn lay_row(
     with_row(counts, front.len)
 }
 
-// The same in a `Lent`. Tried as a call of the other on the four fields, named or by a pattern: the borrow checker has no rule for
-// lengths that are read beside buffers that are written, all behind one `&mut`.
+// The same in a `Lent`: the lengths of the fronts are read beside buffers that are written, so they are copied first.
 pub fn lay_row_in(lent: &mut Lent, counts: Counts, li: usize, row: &[f64]) -> Counts
     requires sound { Sound (held_in lent.old counts) }
     requires clean { Clean (held_in lent.old counts) }
@@ -84,14 +83,15 @@ pub fn lay_row_in(lent: &mut Lent, counts: Counts, li: usize, row: &[f64]) -> Co
     ensures same { Same lent.old lent.new }
     ensures laid { held_in lent.new result ≡ written (committed (reading (held_in lent.old counts)) li row.now) }
 {
-    let front = lent.front(counts.fronts, li);
-    put_row(
+    let mut lengths = [0u16; 16];
+    lengths.copy_from_slice(lent.read().front_lengths);
+    lay_row(
         lent.points,
         lent.quads,
         lent.front_nodes,
-        front,
+        &lengths,
         counts,
+        li,
         row,
-    );
-    with_row(counts, front.len)
+    )
 }

@@ -26,6 +26,11 @@ total_nodes e t = rw e at t
 pub same_lengths : (p q n l p' q' n' l' : ℕ) → p ≡ p' → q ≡ q' → n ≡ n' → l ≡ l' → lengths_of p q n l ≡ lengths_of p' q' n' l'
 same_lengths p q n l p' q' n' l' e f g h = rw (e, f, g, h)
 
+-- a loop's refusal is the sampling's
+pub loops_refuse : (j : Job) (n : ℕ) → all_loops j.coords j.loops j.h j.options.corner_margin ≡ refused n → sampled j ≡ refused n
+unfolding sampled
+loops_refuse j n f = f
+
 module _ (j : Job) (l : Lengths) where
   -- all loops of the job
   abbrev loops_of : Outcome State
@@ -40,6 +45,9 @@ module _ (j : Job) (l : Lengths) where
     pub input_refused : n ≡ input_number j l → (n ≡ 0 → ⊥) → left (refused n) (held p q f m no_counts) ≡ sample_call j l
     unfolding sample_call on_job
     input_refused e d = zeros-left ∙ rw (← e, ne_eqb n 0 d)
+
+    pub sampled_refused : sampled j ≡ refused n → left (refused n) (held p q f m no_counts) ≡ job_left l (sampled j)
+    sampled_refused f = zeros-left ∙ ap (job_left l) (sym f)
 
     pub loop_refused : loops_of ≡ refused n → left (refused n) (held p q f m no_counts) ≡ job_left l (sampled j)
     unfolding sampled

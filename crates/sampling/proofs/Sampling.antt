@@ -130,7 +130,7 @@ module _ {coords : List Float} {loops : List ℕ} {h corner_margin : Float} {p�
     pub room_first : m * 2 ≤ length ahead
     room_first = omega (arith, next_pairs, sofar.left)
 
-    room_left : sum_of (drop (k + 1) loops) * 2 ≡ length (drop (m * 2) ahead)
+    pub room_left : sum_of (drop (k + 1) loops) * 2 ≡ length (drop (m * 2) ahead)
     room_left = rw length-drop (omega (arith, next_pairs, sofar.left))
 
     next-rings : rings ahead (drop k loops) ≡ given ∷ rings (drop (m * 2) ahead) (drop (k + 1) loops)

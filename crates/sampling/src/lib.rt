@@ -4,4 +4,4 @@
 mod all_loops;
 mod call;
 
-pub use call::{sample, sample_accepted};
+pub use call::{put_loops, sample, sample_accepted};

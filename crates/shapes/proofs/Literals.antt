@@ -1,7 +1,7 @@
 -- The literals of the code that the crates below have no law for, by their bits. One law for each.
 use mathlib.Core.Path.{◌≡◌, refl}
 use mathlib.Core.Bool.{false}
-use lib.Ieee.{inf, nan, binary64, of_bits, round}
+use lib.Ieee.{inf, nan, binary64, div, of_bits, round}
 use Rattle.float.specs.Helpers.{decimal}
 
 -- 1000.0
@@ -28,3 +28,8 @@ infinity_is = refl
 pub nan_is : of_bits binary64 0x7FF8_0000_0000_0000 ≡ nan
 unfolding of_bits
 nan_is = refl
+
+-- 0.0 / 0.0
+pub zero_by_zero : div binary64 (of_bits binary64 0) (of_bits binary64 0) ≡ nan
+unfolding div of_bits
+zero_by_zero = refl

@@ -44,6 +44,10 @@ module _ (x zero : Float) (n : ℕ) (z : zero ≡ decimal 0 0) (e : n ≡ thousa
   unfolding across_text
   across_is = rw (z, e)
 
+  pub up_fixed : fixed_text (lt zero x) n ≡ up_text x
+  unfolding up_text
+  up_fixed = rw (z, e)
+
 -- a number and its opposite
 same_size : (y : Float) → absolute (neg y) ≡ absolute y
 unfolding absolute neg

@@ -15,11 +15,46 @@ use Rattle.geometry.specs.Rings.{point_at}
 use Rattle.state.specs.State.{Quad, quad_nodes, quads_of, cut, numbered, joined}
 use Rattle.state.proofs.Reading.{numbers-quads_of, length-quads_of}
 use Rattle.state.proofs.Written.{quads_back}
-use Rattle.shapes.specs.Shapes.{ring_text, path_text, loops_text, worst_of, step_of, tile_text, tiles_text, worst, quad_at, fronts_text, dot_text, dots_text}
+use Rattle.shapes.specs.Places.{place_text}
+use Rattle.shapes.specs.Shapes.{places_text, ring_text, path_text, loops_text, worst_of, step_of, tile_text, tiles_text, worst, quad_at, fronts_text, dot_text, dots_text}
 
--- ---- dots
+-- ---- numbers in turn
+
+numbered_next : (first n i : ℕ) → i < n → numbered (first + i) (n - i) ≡ (first + i) ∷ numbered (first + (i + 1)) (n - (i + 1))
+unfolding numbered
+numbered_next first n i h =
+    let e : n - i ≡ suc (n - (i + 1)) = omega arith in
+    let f : first + (i + 1) ≡ suc (first + i) = omega arith in
+    rw (e, f)
+
+numbered_end : (first n i : ℕ) → n ≤ i → numbered (first + i) (n - i) ≡ []
+unfolding numbered
+numbered_end first n i h = let e : n - i ≡ 0 = omega arith in rw e
+
+-- ---- places and dots
 
 module _ (p : List Float) where
+  pub places_next : (l : List ℕ) (i : ℕ) (v : Point) → i < length l → v ≡ point_at p (get_or l i 0) → places_text p (drop i l) ≡ place_text v ++ places_text p (drop (i + 1) l)
+  unfolding places_text
+  places_next l i v h e = rw (e, add-one i, drop-cons l i 0 h)
+
+  pub places_end : (l : List ℕ) (i : ℕ) → length l ≤ i → places_text p (drop i l) ≡ []
+  unfolding places_text
+  places_end l i h = rw (drop_of_length-le l h)
+
+  module _ (first n : ℕ) where
+    pub run_begin : places_text p (numbered first n) ≡ places_text p (numbered (first + 0) (n - 0))
+    run_begin = let e : n - 0 ≡ n = omega arith in let f : first + 0 ≡ first = omega arith in rw (e, f)
+
+    module _ (i : ℕ) where
+      pub run_next : (v : Point) → i < n → v ≡ point_at p (first + i) → places_text p (numbered (first + i) (n - i)) ≡ place_text v ++ places_text p (numbered (first + (i + 1)) (n - (i + 1)))
+      unfolding places_text
+      run_next v h e = rw (e, numbered_next first n i h)
+
+      pub run_end : n ≤ i → places_text p (numbered (first + i) (n - i)) ≡ []
+      unfolding places_text
+      run_end h = rw (numbered_end first n i h)
+
   pub dots_begin : (n : ℕ) → dots_text p (numbered 0 n) ≡ dots_text p (numbered 0 (n - 0))
   dots_begin n = let e : n - 0 ≡ n = omega arith in rw e
 

@@ -7,22 +7,28 @@ ghost use Rattle.std.specs.Prelude.{◌≡◌, ◌<◌, ◌≤◌, length, take,
 ghost use Rattle.std.specs.Io.KnownBytes.{Consumes, IsAtEnd};
 
 pub use buffers::answer_buffer;
-use std::io;
 use std::io::Read;
 
+// A read that failed: what it says of the failure is not kept.
+#[derive(Clone, Copy, PartialEq, Eq, Debug)]
+pub struct Unread;
+
 // One read behind the first `done` bytes: how many there are then.
-fn read_behind<R: Read>(from: &mut R, buf: &mut [u8], done: usize) -> io::Result<usize>
+fn read_behind<R: Read>(from: &mut R, buf: &mut [u8], done: usize) -> Result<usize, Unread>
     requires { done ≤ length buf.old }
     ensures reached { IfOk result (λ n. (done ≤ n) × (n ≤ length buf.new)) }
     ensures front { take done buf.new ≡ take done buf.old }
     ensures bytes { IfOk result (λ n. Consumes (R.remaining from.old) (R.remaining from.new) (drop done (take n buf.new))) }
     ensures end { IfOk result (λ n. n ≡ done → done < length buf.new → IsAtEnd (R.remaining from.new)) }
 {
-    Ok(done + from.read(&mut buf[done..])?)
+    match from.read(&mut buf[done..]) {
+        Ok(n) => Ok(done + n),
+        Err(_) => Err(Unread),
+    }
 }
 
 // Reads until the input ends, the buffer is full, or a read fails. A slow writer's pieces come one after the other.
-pub fn read_input<R: Read>(from: &mut R, buf: &mut [u8]) -> io::Result<usize>
+pub fn read_input<R: Read>(from: &mut R, buf: &mut [u8]) -> Result<usize, Unread>
     ensures long { length buf.new ≡ length buf.old }
     ensures within { IfOk result (λ n. n ≤ length buf.new) }
 

@@ -1,16 +1,18 @@
 -- Tests over a list of numbers, one place a turn: some number is out of bounds; some number stands twice.
 use mathlib.Core.Path.{◌≡◌, refl, sym, ◌∙◌, ap}
-use mathlib.Core.Bool.{Bool, true, false, ◌||◌, true≢false}
+use mathlib.Core.Bool.{Bool, true, false, cond, ◌||◌, beq, true≢false}
 use mathlib.Core.List.{List, [], ◌∷◌, ◌++◌}
-use Prim.Native.Nat.{ℕ, zero, suc, ◌+◌, ◌<◌, ◌≤◌}
+use Prim.Native.Nat.{ℕ, zero, suc, ◌+◌, ◌*◌, ◌<◌, ◌≤◌}
 use native.Mathlib.Nat.{not-suc-le-zero, le_of_suc-le-suc}
+use native.Mathlib.Omega.{arith}
 use native.Mathlib.Numerals.{add-one}
 use native.Mathlib.Decide.{ℕ_discrete}
-use borrow.Author.Tests.{eq-eqb, ne_eqb, leb-false}
-use lib.Dec.{eqb, leb}
-use lib.ListN.{length, get_or, take, drop, set, take-append-drop, replicate, get_or-replicate, length-replicate, length-set}
-use lib.Seq.{take-suc, take_all, get_or-set_same, get_or-set_other}
+use borrow.Author.Tests.{eq-eqb, ne_eqb, le-leb, lt-leb, leb-false, ltb-true, ltb-false}
+use lib.Dec.{eqb, leb, ltb}
+use lib.ListN.{length, get_or, take, drop, set, drop_of_length-le, take-append-drop, replicate, get_or-replicate, length-replicate, length-set}
+use lib.Seq.{drop-cons, drop-drop, take-suc, take_all, get_or-set_same, get_or-set_other}
 use Rattle.std.specs.List.{list_any}
+use Rattle.std.specs.Simd.{first_chunks}
 use Rattle.std.proofs.lemmas.List.Recursion.{same_from_clauses}
 use Rattle.state.proofs.Basics.{or_true, or_no, or_assoc, or_false}
 use Rattle.state.specs.Given.{some, some_from, member, repeated}
@@ -23,10 +25,31 @@ module _ (p : ℕ → Bool) where
   unfolding some
   some_is = same_from_clauses (some p) (list_any p) (λ x b. p x || b) refl (λ _ _. refl) (λ _ _. refl)
 
+  pub some_here : (l : List ℕ) (i x : ℕ) → i < length l → x ≡ get_or l i 0 → some p (drop i l) ≡ (p x || some p (drop (i + 1) l))
+  unfolding some
+  some_here l i x h e = rw (add-one, drop-cons l i 0 h, e)
+
+  pub some_end : (l : List ℕ) (i : ℕ) → length l ≤ i → some p (drop i l) ≡ false
+  unfolding some
+  some_end l i h = rw (drop_of_length-le l h)
+
   pub some_both : (xs ys : List ℕ) → some p (xs ++ ys) ≡ (some p xs || some p ys)
   unfolding some
   some_both [] ys = refl
   some_both (x ∷ xs) ys = ap (λ b. p x || b) (some_both xs ys) ∙ or_assoc (p x) (some p xs) (some p ys)
+
+-- a number on the side that is looked for: below n, or not below it
+pub on_side : (n x : ℕ) (below t : Bool) → beq (ltb x n) below ≡ t → cond below (ltb x n) (leb n x) ≡ t
+on_side n x true t e = go (ltb x n) e
+  where
+    go : (b : Bool) → beq b true ≡ t → b ≡ t
+    go true f = f
+    go false f = f
+on_side n x false t e = go (ltb x n) refl e
+  where
+    go : (b : Bool) → ltb x n ≡ b → beq b false ≡ t → leb n x ≡ t
+    go true h f = lt-leb n x (ltb-true x n h) ∙ f
+    go false h f = le-leb n x (ltb-false x n h) ∙ f
 
 module _ (n : ℕ) where
   -- where no number is out of bounds each is below n
@@ -38,6 +61,16 @@ module _ (n : ℕ) where
 
   pub from_both : (xs ys : List ℕ) → some_from n (xs ++ ys) ≡ (some_from n xs || some_from n ys)
   from_both = some_both (λ x. leb n x)
+
+  -- whole chunks first, then what is left
+  pub from_chunks : (w k : ℕ) (xs : List ℕ) → (list_any (some_from n) (first_chunks w k xs) || some_from n (drop (k * w) xs)) ≡ some_from n xs
+  from_chunks w zero xs = let none : 0 * w ≡ 0 = omega arith in ap (λ m. some_from n (drop m xs)) none
+  from_chunks w (suc k) xs =
+      let behind : drop (k * w) (drop w xs) ≡ drop (suc k * w) xs = drop-drop (k * w) w xs ∙ ap (λ m. drop m xs) (omega arith) in
+      let rest = ap (λ ys. list_any (some_from n) (first_chunks w k (drop w xs)) || some_from n ys) behind in
+      sym (or_assoc (some_from n (take w xs)) (list_any (some_from n) (first_chunks w k (drop w xs))) (some_from n (drop (suc k * w) xs)))
+      ∙ ap (λ b. some_from n (take w xs) || b) (sym rest ∙ from_chunks w k (drop w xs))
+      ∙ sym (from_both (take w xs) (drop w xs)) ∙ ap (some_from n) (take-append-drop w xs)
 
 -- ---- a number that stands twice
 

@@ -1,10 +1,10 @@
 -- Number 25: the definition's tests on the state that was read are the code's on the buffers; and what buffers have that it does not refuse.
-use mathlib.Core.Path.{◌≡◌, refl, ap}
+use mathlib.Core.Path.{◌≡◌, refl, sym, ap}
 use mathlib.Core.Bool.{Bool, true, false, not, ◌||◌}
 use mathlib.Core.List.{List}
-use Prim.Native.Nat.{ℕ, ◌+◌, ◌*◌, ◌<◌, ◌≤◌}
+use Prim.Native.Nat.{ℕ, ◌+◌, ◌-◌, ◌*◌, ◌/◌, ◌<◌, ◌≤◌}
 use native.Mathlib.Omega.{arith}
-use borrow.Author.Tests.{ltb-false, eqb-true, not-false}
+use borrow.Author.Tests.{lt-ltb, le-ltb, eq-eqb, ne_eqb, ltb-true, ltb-false, eqb-true, not-false}
 use lib.Dec.{eqb, ltb}
 use lib.Ieee.{Float}
 use lib.ListN.{length, get_or, take}
@@ -22,10 +22,34 @@ use Rattle.state.specs.Sound.{Sound, sizes_of}
 use Rattle.state.proofs.Repeating.{all_below, from_both}
 use Rattle.state.proofs.Reading.{Counted, nodes-read, quads_read, quad-nodes-read, front-nodes-read}
 
--- the counts that do not fit together: of q quads r are the rows' and k the core's, l were laid, in s rows
+-- six times b exceeds a: compared without a product
+sixth : (a b : ℕ) → ltb (a / 6) b ≡ ltb a (6 * b)
+sixth a b = go (ltb (a / 6) b) refl
+  where
+    go : (t : Bool) → ltb (a / 6) b ≡ t → t ≡ ltb a (6 * b)
+    go true e = let h = ltb-true (a / 6) b e in sym (lt-ltb a (6 * b) (omega arith))
+    go false e = let h = ltb-false (a / 6) b e in sym (le-ltb a (6 * b) (omega arith))
+
+-- the counts that do not fit together, by the code's tests: of q quads r are the rows' and k the core's, l were laid, in s rows
 module _ (q r k l s : ℕ) where
   abbrev sums : Bool
   sums = not (eqb (r + k) q) || ltb q l || ltb r (6 * s)
+
+  pub too_many : q < r → true ≡ sums
+  too_many h = rw (ne_eqb (r + k) q (λ e. omega arith))
+
+  pub unequal : r ≤ q → (k ≡ q - r → ⊥) → true ≡ sums
+  unequal h f = rw (ne_eqb (r + k) q (λ e. f (omega arith)))
+
+  module _ (h : r ≤ q) (e : k ≡ q - r) where
+    equal : eqb (r + k) q ≡ true
+    equal = eq-eqb (r + k) q (omega arith)
+
+    pub laid_over : q < l → true ≡ sums
+    laid_over g = rw (equal, lt-ltb q l g)
+
+    pub rounds_decide : l ≤ q → ltb (r / 6) s ≡ sums
+    rounds_decide g = rw (equal, le-ltb q l g) (sixth r s)
 
 or_group : (a b c d e f : Bool) → (a || b || c || d || e || f) ≡ (a || b || c || (d || e || f))
 or_group true b c d e f = refl

@@ -3,12 +3,24 @@ use mathlib.Core.Path.{◌≡◌, refl, ◌∙◌}
 use mathlib.Core.Bool.{Bool, true, false, not, ◌||◌}
 use mathlib.Core.List.{List}
 use Prim.Native.Nat.{ℕ, ◌+◌, ◌<◌, ◌≤◌}
+use native.Mathlib.Nat.{add_assoc}
 use native.Mathlib.Numerals.{add-one}
 use lib.ListN.{length, get_or, drop, drop_of_length-le}
 use lib.Seq.{drop-cons}
 use lib.Ieee.{Float, lt}
 use Rattle.float.specs.Helpers.{absolute, is_finite}
+use Rattle.geometry.specs.Domain.{sum_of}
 use Rattle.state.specs.Coordinates.{wrong_coordinate}
+
+-- ---- the sum of the loop lengths
+
+pub total_step : (l : List ℕ) (i sum n : ℕ) → sum + sum_of (drop i l) ≡ sum_of l → n ≡ get_or l i 0 → i < length l → sum + n + sum_of (drop (i + 1) l) ≡ sum_of l
+unfolding sum_of
+total_step l i sum n e h k = add_assoc sum n (sum_of (drop (i + 1) l)) ∙ rw (h, add-one) (rw (drop-cons l i 0 k) at e)
+
+pub total_end : (l : List ℕ) (i sum : ℕ) → sum + sum_of (drop i l) ≡ sum_of l → length l ≤ i → sum + 0 ≡ sum_of l
+unfolding sum_of
+total_end l i sum e h = rw (drop_of_length-le l h) at e
 
 -- ---- the coordinates
 

@@ -26,6 +26,11 @@ abbrev pub answered : {A : Type 0} → Result A Refusal → Outcome A
 answered (Ok x) = gives x
 answered (Err e) = refused (number e)
 
+-- the same where a refusal is any number
+abbrev pub told : {A : Type 0} → Result A ℕ → Outcome A
+told (Ok x) = gives x
+told (Err n) = refused n
+
 -- the number of a refusal, and 0 where there is none
 abbrev pub refusal_of : {A : Type 0} → Result A Refusal → ℕ
 refusal_of (Ok x) = 0

@@ -7,20 +7,32 @@ ghost use Rattle.state.specs.Call.{held, lent};
 ghost use Rattle.state.specs.Lent.{held_of};
 ghost use Rattle.state.specs.Given as givens;
 
+use crate::appending::narrow;
 use crate::coordinates::wrong_coordinate;
 use crate::fronts::sum_of;
 use crate::limits::is_full;
 use crate::{Buffers, Counts};
 
-// Some number is not below `n`. No test ends the loop, so several are done at a time; `any` takes twice as long.
-fn some_from(n: usize, numbers: &[u16]) -> bool
+// Some of a few numbers is not below `n`. No test ends the loop, so several are done at a time.
+fn some_of(n: u16, numbers: &[u16]) -> bool
     ensures { result ≡ givens.some_from n numbers.now }
 {
     let mut some = false;
     for x in numbers {
-        some |= n <= usize::from(*x);
+        some |= n <= *x;
     }
     some
+}
+
+// The same of any numbers, 64 at a time: the first 64 that have such a number end it, so a state that is refused at once is not read to
+// its end.
+fn some_from(n: usize, numbers: &[u16]) -> bool
+    requires { n ≤ point_limit }
+    ensures { result ≡ givens.some_from n numbers.now }
+{
+    let n = narrow(n);
+    let (chunks, rest) = numbers.as_chunks::<64>();
+    chunks.iter().any(|chunk| some_of(n, chunk)) || some_of(n, rest)
 }
 
 // Some node number, all below `N`, stands twice: each is marked when it is met first.

@@ -21,7 +21,7 @@ pub use fronts::{Fronts, front_at, nodes_of, sum_of};
 pub use held::{Buffers, fit_nodes};
 pub use lent::Lent;
 pub use limits::is_full;
-pub use refusal::Refusal;
+pub use refusal::{Refusal, numbered};
 
 // The eight counts of document 01; by default none.
 #[derive(Clone, Copy, Default)]

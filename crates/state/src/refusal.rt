@@ -1,6 +1,6 @@
 // Why a call is refused.
 ghost use Rattle.std.specs.Prelude.{◌≡◌};
-ghost use Rattle.state.specs.Refusals.{number};
+ghost use Rattle.state.specs.Refusals.{answered, number, told};
 
 // Each refusal by what is wrong, with the number that callers get for it (docs/NUMBERS.md).
 #[derive(Clone, Copy, PartialEq, Eq, Debug)]
@@ -34,5 +34,15 @@ impl Refusal {
         ensures { result ≡ number self }
     {
         self as u32
+    }
+}
+
+// The same answer, a refusal by its number: for who writes the answer, and takes any number.
+pub fn numbered<T>(answer: Result<T, Refusal>) -> Result<T, u32>
+    ensures { told result ≡ answered answer }
+{
+    match answer {
+        Ok(value) => Ok(value),
+        Err(refusal) => Err(refusal.number()),
     }
 }

@@ -4,12 +4,13 @@ use mathlib.Core.Bool.{Bool, true, false, not, cond, ◌&&◌, ◌||◌, true≢
 use mathlib.Core.List.{List, [], ◌∷◌}
 use mathlib.Core.Option.{none, some}
 use Prim.Native.Nat.{ℕ, zero, suc, ◌+◌, ◌-◌, ◌≤◌, ◌<◌, zero-le, suc-le-suc}
-use native.Mathlib.Nat.{zero-add, suc-add}
+use native.Mathlib.Nat.{add-zero, zero-add, suc-add}
+use native.Mathlib.Numerals.{add-one}
 use native.Mathlib.Omega.{arith}
-use borrow.Author.Tests.{ne_eqb, ltb-false, lt-ltb, le-ltb}
+use borrow.Author.Tests.{eq-eqb, ne_eqb, ltb-false, lt-ltb, le-ltb}
 use lib.Dec.{eqb, ltb}
-use lib.ListN.{length, take, drop, length-drop}
-use lib.Seq.{drop-drop, slice, take-nil, length-slice, take_all}
+use lib.ListN.{length, get_or, take, drop, length-drop, drop_of_length-le}
+use lib.Seq.{drop-cons, drop-drop, slice, take-nil, length-slice, take_all}
 use Rattle.std.specs.Prelude.{Option, Some, None}
 use Rattle.std.specs.Option.{unwrap_or}
 use Rattle.std.specs.List.{list_any, position, position_or_len, starts_with}
@@ -112,10 +113,31 @@ module _ (t : List ℕ) where
       by true e = let s : ◌≡◌ {A = Option ℕ} None (Some (length (field t))) = h ∙ sym (place_is e refl) in cc
       by false e = e
 
+-- which bytes end one
+pub tab-ends : (b : ℕ) → b ≡ 9 → ends_field b ≡ true
+tab-ends b e = rw (eq-eqb b 9 e)
+
+pub lf-ends : (b : ℕ) → (b ≡ 9 → ⊥) → b ≡ 10 → ends_field b ≡ true
+lf-ends b n e = rw (ne_eqb b 9 n, eq-eqb b 10 e)
+
 pub none_ends : (b : ℕ) → (b ≡ 9 → ⊥) → (b ≡ 10 → ⊥) → ends_field b ≡ false
 none_ends b n m = rw (ne_eqb b 9 n, ne_eqb b 10 m)
 
+-- the end, byte by byte
 module _ (t : List ℕ) (at : ℕ) where
+  pub end_last : length t ≤ at → field_end t at ≡ at
+  unfolding field field_end
+  end_last h = rw (drop_of_length-le t h) (add-zero at)
+
+  module _ (h : at < length t) where
+    pub end_stops : ends_field (get_or t at 0) ≡ true → field_end t at ≡ at
+    unfolding field field_end
+    end_stops e = rw (drop-cons t at 0 h, e) (add-zero at)
+
+    pub end_goes : ends_field (get_or t at 0) ≡ false → field_end t at ≡ field_end t (at + 1)
+    unfolding field field_end
+    end_goes e = rw (drop-cons t at 0 h, e, add-one) (omega arith)
+
   pub end_within : at ≤ length t → (at ≤ field_end t at) × (field_end t at ≤ length t)
   unfolding field_end
   end_within h = let s = field_short (drop at t) in let d = length-drop at t in (omega arith, omega arith)
@@ -154,6 +176,34 @@ behind_is (x ∷ w) (b ∷ t) {r} e = by (eqb x b) (λ e. behind_is w t e) e
     by : (s : Bool) → (behind w t ≡ some r → (r ≡ drop (length w) t) × (length w ≤ length t)) → cond s (behind w t) none ≡ some r → (r ≡ drop (length w) t) × (suc (length w) ≤ suc (length t))
     by true i e = ((i e).0, suc-le-suc (i e).1)
     by false i e = let z : ◌≡◌ {A = ℕ} 0 1 = cc in absurd (omega arith)
+
+pub too_short : (w t : List ℕ) → length t < length w → behind w t ≡ none
+unfolding behind
+too_short [] t h = absurd (omega arith)
+too_short (x ∷ w) [] h = refl
+too_short (x ∷ w) (b ∷ t) h = by (eqb x b) (too_short w t (omega arith))
+  where
+    by : (s : Bool) → behind w t ≡ none → cond s (behind w t) none ≡ none
+    by true i = i
+    by false i = refl
+
+-- a word from its byte i on, which goes on where the text has the same byte
+module _ (w t : List ℕ) (at i : ℕ) (hw : i < length w) (ht : at + i < length t) where
+  first_true : behind (drop i w) (drop (at + i) t) ≡ cond (eqb (get_or w i 0) (get_or t (at + i) 0)) (behind (drop (suc i) w) (drop (suc (at + i)) t)) none
+  unfolding behind
+  first_true = rw (drop-cons w i 0 hw, drop-cons t (at + i) 0 ht)
+
+  pub same_goes : get_or t (at + i) 0 ≡ get_or w i 0 → behind (drop i w) (drop (at + i) t) ≡ behind (drop (i + 1) w) (drop (at + (i + 1)) t)
+  same_goes e =
+      let n : at + (i + 1) ≡ suc (at + i) = omega arith in
+      first_true ∙ rw (eq-eqb _ _ (sym e), n, add-one)
+
+  pub other_stops : (get_or t (at + i) 0 ≡ get_or w i 0 → ⊥) → behind (drop i w) (drop (at + i) t) ≡ none
+  other_stops n = first_true ∙ rw (ne_eqb _ _ (λ e. n (sym e)))
+
+pub all_same : (w t : List ℕ) (at i : ℕ) → length w ≤ i → behind (drop i w) (drop (at + i) t) ≡ some (drop (at + i) t)
+unfolding behind
+all_same w t at i h = rw (drop_of_length-le w h)
 
 -- `starts_with` compares the word with as many bytes of the text
 pub behind_starts : (w t : List ℕ) → behind w t ≡ cond (starts_with eqb t w) (some (drop (length w) t)) none

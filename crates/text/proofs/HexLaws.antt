@@ -15,11 +15,17 @@ use Rattle.text.specs.Hex.{hex_digit, hex_digits, hex_text, hex_value, hex_spell
 -- ---- the value of a byte
 
 module _ (d : ℕ) where
+  pub low_value : d < 48 → (0 ≡ hex_value d) × (0 < 16)
+  low_value h = let e : 0 ≡ d - 48 = omega arith in (rw (lt-ltb d 58 (omega arith)) e, omega arith)
+
   pub digit_value : {v : ℕ} → v ≡ d - 48 → d < 58 → (v ≡ hex_value d) × (v < 16)
   digit_value e h = (rw (lt-ltb d 58 h) e, omega arith)
 
   pub letter_value : {v : ℕ} → v ≡ d - 55 → 58 ≤ d → d < 71 → (v ≡ hex_value d) × (v < 16)
   letter_value e g h = (rw (le-ltb d 58 g, lt-ltb d 71 h) e, omega arith)
+
+  pub high_value : 58 ≤ d → 71 ≤ d → (0 ≡ hex_value d) × (0 < 16)
+  high_value g h = (rw (le-ltb d 58 g, le-ltb d 71 h), omega arith)
 
 -- ---- digits spell their number
 

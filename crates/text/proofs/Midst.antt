@@ -19,6 +19,11 @@ set-behind : {A : Type 0} (xs d : List A) (a j : ℕ) (v : A) → a + length xs 
 set-behind [] d a j v h = refl
 set-behind (x ∷ xs) d a j v h = set-behind xs (set d a x) (suc a) j v (omega arith) ∙ ap (λ t. sets t (suc a) xs) (set_comm d a j x v (λ e. omega arith))
 
+-- ---- a byte
+
+pub byte_put : (d : List ℕ) (k v : ℕ) → Put d k (v ∷ []) (set d k v) (k + 1)
+byte_put d k v = record { bytes = refl; place = refl }
+
 -- a text whose last byte is stored first
 pub last_first : (d xs : List ℕ) (a j v : ℕ) → j ≡ a + length xs → sets (set d j v) a xs ≡ sets d a (xs ++ (v ∷ []))
 last_first d xs a j v e = sym (set-behind xs d a j v (omega arith)) ∙ rw e (sym (sets-append xs (v ∷ []) d a))

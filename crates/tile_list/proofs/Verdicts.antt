@@ -1,10 +1,11 @@
 -- Which texts are readable, over the buffers that a list was read into.
 use mathlib.Core.Path.{◌≡◌, refl, sym, ◌∙◌, ap}
 use mathlib.Core.Bool.{Bool, true, false, cond, ◌&&◌, true≢false}
-use mathlib.Core.List.{List, [], ◌∷◌, map}
+use mathlib.Core.List.{List, [], ◌∷◌, ◌++◌, map, append-nil}
 use mathlib.Core.Option.{Option, none, some, none-ne-some, some-injective}
 use Prim.Native.Nat.{ℕ, zero, suc, ◌*◌, ◌≤◌, ◌<◌}
 use native.Mathlib.Omega.{arith}
+use borrow.Author.Tests.{eq-eqb, eqb-true}
 use lib.Dec.{eqb}
 use lib.Pointwise.{pointwise, bytes_decides}
 use lib.Ieee.{nan, binary64, of_bits}
@@ -14,10 +15,12 @@ use lib.Seq.{sets, length-take-le, get_or-take}
 use Rattle.float.specs.Helpers.{decimal}
 use Rattle.float.proofs.Literals.{zero_is}
 use Rattle.state.specs.Limits.{front_limit, front_node_limit, points_length, quads_length, quad_limit}
-use Rattle.state.specs.State.{Held, quad_nodes, joined, written, reading, quads_of}
+use Rattle.state.specs.State.{Held, quad_nodes, joined, written, reading, quads_of, cut}
 use Rattle.state.proofs.Stores.{front_part}
 use Rattle.text.specs.Decimal.{same_bytes}
-use Rattle.tile_text.specs.TileList.{TileList, with_fronts, list_text, allowed}
+use Rattle.text.specs.Fields.{behind}
+use Rattle.answer_text.specs.AnswerText.{state_text}
+use Rattle.tile_text.specs.TileList.{TileList, with_fronts, loops_text, list_text, allowed}
 use Rattle.tile_text.specs.Reading.{fields_of, worded, coordinate, said, read_list}
 use Rattle.tile_text.specs.declared.list.ListRead.{ListRead}
 use Rattle.tile_text.specs.Readable.{F64s}
@@ -65,7 +68,12 @@ module _ (t : List ℕ) (v : HeldList) where
   abbrev o : Held
   o = loops_in v
 
-  points_fit : v.counts.points * 2 ≤ length v.state.points.now → F64s (reading b).points
+  -- the list's text: the loops' lines, then the state's
+  pub text_is : loops_text (cut (take v.loops v.loop_lengths.now) v.loop_nodes.now) ++ state_text (reading b) ≡ list_text (list_of v)
+  unfolding list_text reading
+  text_is = refl
+
+  pub points_fit : v.counts.points * 2 ≤ length v.state.points.now → F64s (reading b).points
   unfolding reading
   points_fit h i l =
       let e = length-take-le (v.counts.points * 2) v.state.points.now h in
@@ -145,6 +153,28 @@ module _ (t : List ℕ) (v : HeldList) where
         ap read_list (sym e) ∙ read_back (list_of v) (points_fit (omega arith)) (allowed_in v a)
 
 -- ---- one text compared with another
+
+behind_more : (w r : List ℕ) → behind w (w ++ r) ≡ some r
+unfolding behind
+behind_more [] r = refl
+behind_more (x ∷ w) r = rw (eq-eqb x x refl) (behind_more w r)
+
+behind_same : (w t : List ℕ) {r : List ℕ} → behind w t ≡ some r → length t ≤ length w → w ≡ t
+unfolding behind
+behind_same [] [] e h = refl
+behind_same [] (b ∷ t) e h = absurd (omega arith)
+behind_same (x ∷ w) [] {r} e h = absurd (none-ne-some r e)
+behind_same (x ∷ w) (y ∷ t) {r} e h = by (eqb x y) refl (λ g. behind_same w t g (omega arith)) e
+  where
+    by : (s : Bool) → eqb x y ≡ s → (behind w t ≡ some r → w ≡ t) → cond s (behind w t) none ≡ some r → x ∷ w ≡ y ∷ t
+    by true i rec e = let f = eqb-true x y i in let g = rec e in cc
+    by false i rec e = absurd (none-ne-some r e)
+
+-- of two texts of the same length the one behind the other tells whether they are the same
+pub same_bytes_lem : (w t : List ℕ) (r : Bool) (x : List ℕ) → length w ≡ length t → behind w t ≡ cond r (some x) none → ((r ≡ true) → w ≡ t) × ((r ≡ false) → w ≡ t → ⊥)
+same_bytes_lem w t true x l e = ((λ _. behind_same w t e (omega arith)), (λ f. absurd (true≢false f)))
+same_bytes_lem w t false x l e =
+    ((λ f. absurd (true≢false (sym f))), (λ _ g. none-ne-some [] (sym e ∙ ap (behind w) (sym g) ∙ ap (behind w) (sym (append-nil w)) ∙ behind_more w [])))
 
 module _ (t : List ℕ) (l : TileList) where
   pub not_readable : (out : List ℕ) → read_list t ≡ none → ReadableIs t out l false

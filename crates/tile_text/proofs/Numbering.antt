@@ -93,7 +93,7 @@ module _ (t : List ℕ) (at from : ℕ) (old : List ℕ) where
   module _ (new : List ℕ) (next count : ℕ) (l : Left t at from old new next count) where
     -- a number v is stored
     module _ (h : next < length t) (b : get_or t next 0 ≡ tab) (end v : ℕ) (ends : end ≡ field_end t (next + 1)) (is : (n : ℕ) → n < 65536 → slice (next + 1) end t ≡ decimal_text n → v ≡ n)
-        (newer : List ℕ) (e : newer ≡ set new (from + count) v) where
+        (newer : List ℕ) (e : v < 65536 → newer ≡ set new (from + count) v) where
       one_less : (ns rest : List ℕ) → Rest t from old new next count ns rest → Rest t from old newer end (count + 1) ns rest
       unfolding numbers_text
       one_less ns rest r = by r.left r.text r.counted r.stored r.small
@@ -106,7 +106,7 @@ module _ (t : List ℕ) (at from : ℕ) (old : List ℕ) where
               let g = small_first m ms u in
               let q : v ≡ m = is m g f in
               let k : from + (count + 1) ≡ suc (from + count) = omega arith in
-              record { left = ms; text = rw ends (number_behind t next m ms rest w); counted = omega arith; stored = rw (k, e, q) s; small = small_rest m ms u }
+              record { left = ms; text = rw ends (number_behind t next m ms rest w); counted = omega arith; stored = rw (k, e (omega arith), q) s; small = small_rest m ms u }
 
       pub left_step : Left t at from old newer end (count + 1)
       left_step =

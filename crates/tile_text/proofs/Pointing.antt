@@ -8,8 +8,8 @@ use borrow.Author.Tests.{lt-ltb, le-ltb}
 use lib.Dec.{T}
 use lib.Ieee.{Float, nan, inf, fin, binary64, fits, is_nan, nan_bits, of_bits, to_bits}
 use lib.Ieee.Bits.{nan_bits_above, nan_bits_is, of_bits-to_bits, to_bits-lt}
-use lib.ListN.{length, get_or, take, drop, length-append, length-drop, get_or-append}
-use lib.Seq.{sets, slice, drop-drop, drop_at}
+use lib.ListN.{length, get_or, take, drop, set, length-append, length-drop, length-set, get_or-append}
+use lib.Seq.{sets, set_out, slice, drop-drop, drop_at}
 use Rattle.std.proofs.lemmas.List.{take-append-le, drop-append-le, get_or-drop}
 use Rattle.float.specs.Helpers.{is_finite}
 use Rattle.text.specs.Hex.{bits_text, hex_spelled}
@@ -48,6 +48,11 @@ module _ (x : Float) (f : T (fits binary64 x)) (finite : is_finite x ≡ true) w
   coordinate_back b r s e w h =
       let p : b ≡ to_bits binary64 x = e ∙ ap (hex_spelled 0) w ∙ digits_back in
       h (ap (nan_bits binary64) p ∙ pattern) ∙ ap (of_bits binary64) p ∙ of_bits-to_bits binary64 x f
+
+-- ---- a point beyond the buffer's end is not stored
+
+pub point_out : {A : Type 0} (l : List A) (i : ℕ) (x y : A) → length l ≤ i * 2 → sets l (i * 2) (x ∷ y ∷ []) ≡ l
+point_out l i x y h = set_out (set l (i * 2) x) (suc (i * 2)) y (rw length-set (omega arith)) ∙ set_out l (i * 2) x h
 
 -- ---- the first line
 
@@ -155,7 +160,7 @@ module _ (t : List ℕ) (at : ℕ) (old : List Float) where
                 finite = finite_rest u v ls f;
               }
 
-      left_step : Left t at old newer (next + 36) (count + 1)
+      pub left_step : Left t at old newer (next + 36) (count + 1)
       left_step =
           let w = l.within in
           record { within = (omega arith, omega arith); is = λ n xs rest p f e o. one_less n xs rest o (l.is n xs rest p f e o) }
@@ -175,7 +180,7 @@ module _ (t : List ℕ) (at : ℕ) (old : List Float) where
       done : PointsReadIs t at old new (record { value = count; next = next })
       done = record { within = l.within; is = λ n xs rest p f e o. none_left n xs rest (l.is n xs rest p f e o) }
 
-    done_other : Unlike 112 (drop next t) → PointsReadIs t at old new (record { value = count; next = next })
+    pub done_other : Unlike 112 (drop next t) → PointsReadIs t at old new (record { value = count; next = next })
     done_other o = done (λ x y ls rest e. unlike_same 112 _ (drop next t) o (e ∙ points_more x y ls rest))
 
     pub left_short : length t - next < 36 → PointsReadIs t at old new (record { value = count; next = next })

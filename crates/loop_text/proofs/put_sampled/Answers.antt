@@ -26,10 +26,10 @@ put_lines-requires c =
 
 pub returns-in-Ok-clause-put : goal.returns-in-Ok-clause-put
 returns-in-Ok-clause-put c =
-    let same = rw c.lend-lent.ensures.long at c.sample.ensures.left in
+    let same = c.sample.ensures.left in
     put_same (done_lines _ _ _ _ _ c.in-Ok.counts (ap answered c.in-Ok.is) ∙ ap loop_lines same) (rw (c.fronts-loops.ensures.lengths, c.fronts-loops.ensures.nodes) at c.put_lines.ensures.put)
 
 pub returns-in-Err-clause-put : goal.returns-in-Err-clause-put
 returns-in-Err-clause-put c =
-    let same = rw c.lend-lent.ensures.long at c.sample.ensures.left in
+    let same = c.sample.ensures.left in
     put_same (refused_lines _ (held_in c.sample.new.lent no_counts) _ (ap answered c.in-Err.is) ∙ ap loop_lines same) (rw c.number.ensures at c.put_refused.ensures.put)

@@ -9,7 +9,7 @@ use Rattle.loop_text.proofs.put_text.Goals as goal
 
 pub returns-in-Ok-clause-put : goal.returns-in-Ok-clause-put
 returns-in-Ok-clause-put c =
-    put_same (ap (λ j. loop_lines (sample_call j lent)) c.job.ensures ∙ sampled _ c.in-Ok.read c.in-Ok.ensures) c.put_sampled.ensures.put
+    put_same (ap (λ j. loop_lines (sample_call j lent)) c.job.ensures ∙ sampled _ _ c.in-Ok.ensures.read) c.put_sampled.ensures.put
 
 pub returns-in-Err-clause-put : goal.returns-in-Err-clause-put
-returns-in-Err-clause-put c = put_same (refused_is _ c.in-Err.error c.in-Err.ensures) (rw c.number.ensures at c.put_refused.ensures.put)
+returns-in-Err-clause-put c = put_same (refused_is _ c.in-Err.error c.in-Err.ensures.read) (rw c.number.ensures at c.put_refused.ensures.put)

@@ -12,10 +12,10 @@ pub put_answer-requires-clause-sound_answer : goal.put_answer-requires-clause-so
 put_answer-requires-clause-sound_answer c =
     let long : lengths_in c.job-answer.new.lent ≡ lent = lent_long c.job-answer.ensures.same ∙ c.lend-lent.ensures.long in
     let read = c.read.ensures in
-    rw (read.points, read.quads, read.front_nodes, read.front_lengths) (answer_sound _ _ _ _ _ _ c.job-answer.ensures.left long)
+    rw (c.numbered.ensures, read.points, read.quads, read.front_nodes, read.front_lengths) (answer_sound _ _ _ _ _ _ c.job-answer.ensures.left long)
 
 pub returns-clause-put : goal.returns-clause-put
 returns-clause-put c =
     let same = rw c.lend-lent.ensures.long at c.job-answer.ensures.left in
     let read = c.read.ensures in
-    put_same (ap answer_text same) (rw (read.points, read.quads, read.front_nodes, read.front_lengths) at c.put_answer.ensures.put)
+    put_same (ap answer_text same) (rw (c.numbered.ensures, read.points, read.quads, read.front_nodes, read.front_lengths) at c.put_answer.ensures.put)

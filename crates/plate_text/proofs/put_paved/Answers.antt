@@ -9,7 +9,7 @@ use Rattle.plate_text.proofs.put_paved.Goals as goal
 
 pub returns-in-Ok-clause-put : goal.returns-in-Ok-clause-put
 returns-in-Ok-clause-put c =
-    put_same (ap (λ j. answer_text (job_call j lent)) c.job.ensures ∙ answered _ c.in-Ok.read c.in-Ok.ensures) c.put_job.ensures.put
+    put_same (ap (λ j. answer_text (job_call j lent)) c.job.ensures ∙ answered _ _ c.in-Ok.ensures.read) c.put_job.ensures.put
 
 pub returns-in-Err-clause-put : goal.returns-in-Err-clause-put
-returns-in-Err-clause-put c = put_same (refused _ c.in-Err.error c.in-Err.ensures) (rw c.number.ensures at c.put_refused.ensures.put)
+returns-in-Err-clause-put c = put_same (refused _ c.in-Err.error c.in-Err.ensures.read) (rw c.number.ensures at c.put_refused.ensures.put)

@@ -20,4 +20,4 @@ returns-in_default c =
 pub returns : goal.returns
 returns c =
     let call : Options → Left = λ o. job_call (job c.args.coords.now c.args.loop_lengths.now c.args.h o) (lengths_of (length c.args.points.now) (length c.args.quads.now) (length c.args.front_nodes.now) (length c.args.front_lengths.now)) in
-    job_answered call _ _ c.options_of-options.ensures _ _ _ _ _ c.args.counts.now c.in-Some.ensures.cases.long _ c.no_counts.ensures (answered c.job-answer.result) (grind arith) c.put_answer.ensures
+    job_answered call _ _ c.options_of-options.ensures _ _ _ _ _ c.args.counts.now c.in-Some.ensures.cases.long _ c.no_counts.ensures (answered c.job-answer.result) (grind arith) (rw c.numbered.ensures at c.put_answer.ensures)

@@ -20,4 +20,4 @@ returns-in_default c =
 pub returns : goal.returns
 returns c =
     let call : Options → Held → Left = λ o. fan_call (job c.args.coords.now c.args.loop_lengths.now c.args.h o) in
-    state_answered call _ _ c.options_of-options.ensures _ _ _ _ _ _ _ _ _ c.in-Some.ensures.cases.long _ (rw c.in-Some.ensures.cases.same at c.counts_of-before.ensures) (answered c.fan-answer.result) (grind arith) c.put_answer.ensures
+    state_answered call _ _ c.options_of-options.ensures _ _ _ _ _ _ _ _ _ c.in-Some.ensures.cases.long _ (rw c.in-Some.ensures.cases.same at c.counts_of-before.ensures) (answered c.fan-answer.result) (grind arith) (rw c.numbered.ensures at c.put_answer.ensures)

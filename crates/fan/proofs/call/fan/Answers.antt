@@ -39,4 +39,5 @@ returns-clause-left c =
     let j : Job = job_of c.args.job.now in
     let same : accepted_of c.in_ok-accepted.accepted ≡ j = c.in_ok-accepted.ensures.same in
     let limit : c.in_ok-accepted.accepted.options.corner_limit ≡ j.options.corner_limit = ap (λ (k : Job). k.options.corner_limit) same in
-    state_stands _ (fan_of j.options.corner_limit j) _ (sym c.in_ok-accepted.ensures.value) _ c.is_wrong.ensures c.if-is_wrong.false _ (rw (same, limit) at c.fan_fill.ensures.left)
+    let left = c.fan_fill.ensures.left c.in_ok-accepted.accepted.h c.in_ok-accepted.accepted.options in
+    state_stands _ (fan_of j.options.corner_limit j) _ (sym c.in_ok-accepted.ensures.value) _ c.is_wrong.ensures c.if-is_wrong.false _ (rw (same, limit) at left)

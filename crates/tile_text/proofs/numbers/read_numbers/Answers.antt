@@ -27,7 +27,7 @@ pub loop-next-preserved : goal.loop-next-preserved
 loop-next-preserved c =
     let l = c.loop-next in (
       c.store.auto.numbers ∙ l.invariant.0,
-      left_step _ _ _ _ l.nodes l.next l.count l.invariant.1 c.loop-next-test.true c.if-text-next-ne9.false c.field_end-end.result c.number_in.result c.field_end-end.ensures c.number_in.ensures _ c.store.ensures,
+      left_step _ _ _ _ l.nodes l.next l.count l.invariant.1 c.loop-next-test.true c.if-text-next-ne9.false c.field_end-end.result c.number_in.result c.field_end-end.ensures c.number_in.ensures _ (λ small. c.store.ensures),
     )
 
 pub returns : goal.returns
