@@ -5,7 +5,7 @@ ghost use Rattle.std.specs.Prelude.{◌≤◌, length};
 use calls::run;
 use job_text::TextJob;
 use showing::line;
-use standard::{answer_buffer, read_input};
+use standard::{answer_buffer, read_or_unread};
 use std::rt::{Env, Files};
 use std::{env, fs, io};
 
@@ -20,7 +20,7 @@ fn read_file<'a>(rt: &(impl Files + Eprint), path: &str, input: &'a mut [u8; 655
             return &[];
         }
     };
-    let Ok(n) = read_input(&mut file, input) else {
+    let Ok(n) = read_or_unread(&mut file, input) else {
         let _ = eprintln!(rt; "{path}: it could not be read");
         return &[];
     };

@@ -2,19 +2,39 @@
 #![tactic(auto)]
 
 mod buffers;
+#[cfg(test)]
+mod tests;
 
 ghost use Rattle.std.specs.Prelude.{◌≡◌, ◌<◌, ◌≤◌, length, take, drop, IfOk};
 ghost use Rattle.std.specs.Io.KnownBytes.{Consumes, IsAtEnd};
 
 pub use buffers::answer_buffer;
+use std::io;
 use std::io::Read;
 
 // A read that failed: what it says of the failure is not kept.
 #[derive(Clone, Copy, PartialEq, Eq, Debug)]
 pub struct Unread;
 
+// What an answer keeps of a read that failed.
+trait Failure: Sized {
+    fn of(error: io::Error) -> Self;
+}
+
+impl Failure for io::Error {
+    fn of(error: io::Error) -> io::Error {
+        error
+    }
+}
+
+impl Failure for Unread {
+    fn of(_error: io::Error) -> Unread {
+        Unread
+    }
+}
+
 // One read behind the first `done` bytes: how many there are then.
-fn read_behind<R: Read>(from: &mut R, buf: &mut [u8], done: usize) -> Result<usize, Unread>
+fn read_behind<R: Read, E: Failure>(from: &mut R, buf: &mut [u8], done: usize) -> Result<usize, E>
     requires { done ≤ length buf.old }
     ensures reached { IfOk result (λ n. (done ≤ n) × (n ≤ length buf.new)) }
     ensures front { take done buf.new ≡ take done buf.old }
@@ -23,16 +43,14 @@ fn read_behind<R: Read>(from: &mut R, buf: &mut [u8], done: usize) -> Result<usi
 {
     match from.read(&mut buf[done..]) {
         Ok(n) => Ok(done + n),
-        Err(_) => Err(Unread),
+        Err(error) => Err(E::of(error)),
     }
 }
 
-// Reads until the input ends, the buffer is full, or a read fails. A slow writer's pieces come one after the other.
-pub fn read_input<R: Read>(from: &mut R, buf: &mut [u8]) -> Result<usize, Unread>
+// The loop of both calls below.
+fn read_pieces<R: Read, E: Failure>(from: &mut R, buf: &mut [u8]) -> Result<usize, E>
     ensures long { length buf.new ≡ length buf.old }
     ensures within { IfOk result (λ n. n ≤ length buf.new) }
-
-    // Where it is known what the reader has: the buffer begins with it, and holds all of it unless it is full.
     ensures bytes { IfOk result (λ n. Consumes (R.remaining from.old) (R.remaining from.new) (take n buf.new)) }
     ensures end { IfOk result (λ n. n < length buf.new → IsAtEnd (R.remaining from.new)) }
 {
@@ -46,6 +64,31 @@ pub fn read_input<R: Read>(from: &mut R, buf: &mut [u8]) -> Result<usize, Unread
         done = more;
     }
     Ok(done)
+}
+
+// Reads until the input ends, the buffer is full, or a read fails, and then answers its error. A slow writer's pieces come one after
+// the other.
+pub fn read_input<R: Read>(from: &mut R, buf: &mut [u8]) -> io::Result<usize>
+    ensures long { length buf.new ≡ length buf.old }
+    ensures within { IfOk result (λ n. n ≤ length buf.new) }
+
+    // Where it is known what the reader has: the buffer begins with it, and holds all of it unless it is full.
+    ensures bytes { IfOk result (λ n. Consumes (R.remaining from.old) (R.remaining from.new) (take n buf.new)) }
+    ensures end { IfOk result (λ n. n < length buf.new → IsAtEnd (R.remaining from.new)) }
+{
+    read_pieces::<R, io::Error>(from, buf)
+}
+
+// The same for who says of a read that failed that it did, and no more: the answer can be compared, and keeps no error.
+pub fn read_or_unread<R: Read>(from: &mut R, buf: &mut [u8]) -> Result<usize, Unread>
+    ensures long { length buf.new ≡ length buf.old }
+    ensures within { IfOk result (λ n. n ≤ length buf.new) }
+
+    // Where it is known what the reader has: the buffer begins with it, and holds all of it unless it is full.
+    ensures bytes { IfOk result (λ n. Consumes (R.remaining from.old) (R.remaining from.new) (take n buf.new)) }
+    ensures end { IfOk result (λ n. n < length buf.new → IsAtEnd (R.remaining from.new)) }
+{
+    read_pieces::<R, Unread>(from, buf)
 }
 
 // Writes all of a text, or says on standard error that it is cut.
@@ -70,7 +113,7 @@ pub fn turn<const I: usize, const O: usize, F: FnOnce(&[u8], &mut [u8]) -> usize
     requires callable { (text : _) (out : _) → O ≡ length out.now → F.pre f text out }
 {
     let mut input = [0u8; I];
-    let Ok(n) = read_input(&mut rt.stdin(), &mut input) else {
+    let Ok(n) = read_or_unread(&mut rt.stdin(), &mut input) else {
         say_unread(rt);
         return;
     };

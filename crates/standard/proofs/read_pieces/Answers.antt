@@ -1,6 +1,6 @@
 use Rattle.std.proofs.Common.{rules}
 use Rattle.standard.proofs.Pieces.{more}
-use Rattle.standard.proofs.read_input.Goals as goal
+use Rattle.standard.proofs.read_pieces.Goals as goal
 
 pub loop-done-preserved : goal.loop-done-preserved
 loop-done-preserved g c = record {
