@@ -66,8 +66,8 @@ fn read_pieces<R: Read, E: Failure>(from: &mut R, buf: &mut [u8]) -> Result<usiz
     Ok(done)
 }
 
-// Reads until the input ends, the buffer is full, or a read fails, and then answers its error. A slow writer's pieces come one after
-// the other.
+// Reads until the input ends or the buffer is full, and answers how much came; a read that fails ends it with its error. A slow
+// writer's pieces come one after the other.
 pub fn read_input<R: Read>(from: &mut R, buf: &mut [u8]) -> io::Result<usize>
     ensures long { length buf.new ≡ length buf.old }
     ensures within { IfOk result (λ n. n ≤ length buf.new) }
@@ -79,7 +79,7 @@ pub fn read_input<R: Read>(from: &mut R, buf: &mut [u8]) -> io::Result<usize>
     read_pieces::<R, io::Error>(from, buf)
 }
 
-// The same for who says of a read that failed that it did, and no more: the answer can be compared, and keeps no error.
+// The same with `Unread` in the error's place, for who only says that a read failed; the answers can be compared.
 pub fn read_or_unread<R: Read>(from: &mut R, buf: &mut [u8]) -> Result<usize, Unread>
     ensures long { length buf.new ≡ length buf.old }
     ensures within { IfOk result (λ n. n ≤ length buf.new) }

@@ -1,4 +1,4 @@
-// Of a read that fails: what the two ways of reading keep of it, which no clause says.
+// What no clause says of the two ways to read: that they succeed, and what they keep of a read that fails.
 use crate::{Unread, read_input, read_or_unread};
 use std::io;
 use std::io::Read;
